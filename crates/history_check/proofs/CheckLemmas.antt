@@ -1,6 +1,6 @@
 -- A history, byte by byte: for `HistoryCheck::end`, `end_line`, `go_on`, `grow`, `take_all` and others.
 use Rattle.std.proofs.Common.{◌≡◌, ◌<◌, ◌≤◌, ℕ, ◌+◌, ◌==◌, true, false, Bool, List, [], ◌∷◌, ◌++◌, Option, Some, None, Ok, Err, length, refl, sym, ap, subst, ◌∙◌, inl, inr, arith, append_assoc, append-nil, length-append, get_or, take, drop, take-append-drop, OnOk, Result, is_some, option_map}
-use Rattle.std.specs.Prelude.{◌↔◌, IsTrue}
+use Rattle.std.specs.Prelude.{◌↔◌, IsTrue, MatchBool}
 use Rattle.std.proofs.lemmas.Grind.{common_steps, flat_map-append}
 use Rattle.std.proofs.lemmas.Bool.Decides.{eqb_tells}
 use Rattle.std.proofs.lemmas.List.{take_more}
@@ -17,15 +17,20 @@ use Rattle.history_judge.specs.declared.judge.HistoryJudge.{HistoryJudge}
 use Rattle.history_judge.specs.declared.judge.OpenRequest.{OpenRequest}
 use Rattle.history_judge.specs.FilesApart.{Sending}
 use Rattle.history_judge.specs.Histories.{Answered, IsLegal, MayEnd}
-use Rattle.history_judge.specs.JudgeView.{Exceeds, Knows, Refuses, open_in}
+use Rattle.history_judge.specs.JudgeView.{Exceeds, Knows, Refuses, keeps_order, open_in}
 use Rattle.history_judge.specs.Known.{sending_of}
+use Rattle.std.proofs.Common.{map}
+use Rattle.std.proofs.lemmas.Bool.{cases_Bool}
+use Rattle.history_core.specs.Locks.{FileLocks}
+use Rattle.history_judge.specs.declared.order.FileHappening.{FileHappening}
+use Rattle.history_judge.specs.HistoryOrders.{IsLeft, Leave, no_locks}
 use Rattle.history_check.specs.declared.judging.Judging.{Judging}
 use Rattle.history_check.specs.declared.open_waits.OpenWait.{OpenWait}
 use Rattle.history_check.specs.declared.check.Finding.{Finding}
 use Rattle.history_check.specs.declared.check.Finding.TheVariants as findings
 use Rattle.history_check.specs.declared.check.HistoryCheck.{HistoryCheck}
 use Rattle.history_check.specs.Told.{InLine}
-use Rattle.history_check.specs.Verdicts.{AreJudged, BytesCome, EndComes, Faulty, HistoryComes, Illegal, Legal, LostWakeUps, Verdict, Whole, history_limit, history_of, lines_told, requested_after, said_by, waits_after, waits_behind, waits_from}
+use Rattle.history_check.specs.Verdicts.{AreJudged, BytesCome, EndComes, Faulty, HistoryComes, Illegal, IsSound, Legal, LegalComes, LostWakeUps, OrderComes, Ordered, Verdict, Whole, history_limit, history_of, lines_told, requested_after, said_by, behind_all, by_number, numbers_after, numbers_behind, waits_after, waits_behind}
 use Rattle.history_check.specs.Checked.{AreLinesRead, HasChecked, HasJudged, HasRead, HasReadBytes, HasReadLines, IsFoundAt, IsFoundOf, IsLimited, Judges, LeadsTo, Passes, requested_in, verdict_at, verdict_of}
 use Rattle.history_check.proofs.LineLemmas.{end_leads, last_leads, line_decides, line_grows, line_read, line_too_long, still_decided}
 use Rattle.history_check.proofs.EndLemmas.{comes_whole, decided_all, one_too_many}
@@ -37,13 +42,13 @@ pub history_more : (before : List TextLine) (said : TextLine) → history_of (be
 history_more before said =
     flat_map-append said_by before (said ∷ []) ∙ ap (λ (l : _). history_of before ++ l) (append-nil (said_by said))
 
-waits_more : (number : ℕ) (waits : List OpenWait) (lines : List TextLine) (line : TextLine)
-    → waits_from number waits (lines ++ line ∷ []) ≡ waits_behind (number + length lines) (waits_from number waits lines) line
-waits_more number waits [] line = ap (λ (n : ℕ). waits_behind n waits line) (omega arith)
-waits_more number waits (first ∷ lines) line =
+behind_more : {X : Type 0} (behind : ℕ → X → TextLine → X) (number : ℕ) (x : X) (lines : List TextLine) (line : TextLine)
+    → behind_all behind number x (lines ++ line ∷ []) ≡ behind (number + length lines) (behind_all behind number x lines) line
+behind_more behind number x [] line = ap (λ (n : ℕ). behind n x line) (omega arith)
+behind_more behind number x (first ∷ lines) line =
     let count : (number + 1) + length lines ≡ number + length (first ∷ lines) = omega arith in
-    waits_more (number + 1) (waits_behind number waits first) lines line
-    ∙ ap (λ (n : ℕ). waits_behind n (waits_from (number + 1) (waits_behind number waits first) lines) line) count
+    behind_more behind (number + 1) (behind number x first) lines line
+    ∙ ap (λ (n : ℕ). behind n (behind_all behind (number + 1) (behind number x first) lines) line) count
 
 asked_by : (opened : Option OpenRequest)
     → option_map (λ (o : OpenRequest). o.request.action) opened ≡ option_map (λ (s : Sending). s.request.action) (option_map sending_of opened)
@@ -55,17 +60,18 @@ pub asked : (runs : Bool) (judge : HistoryJudge) (before : List TextLine) → Kn
     → requested_in judge ≡ requested_after before
 asked runs judge before knows =
     let at : (id : ℕ) → requested_in judge id ≡ requested_after before id =
-    λ id. asked_by (open_in judge id) ∙ ap (λ s. option_map (λ (one : Sending). one.request.action) s) (knows.opens id) in
+    λ id. asked_by (open_in judge id) ∙ ap (λ s. option_map (λ (one : Sending). one.request.action) s) (knows.known.opens id) in
     λ i. λ id. at id i
 
 -- ---- the line at hand
 
 -- it was read
 pub line_passed : (judging : Judging) (old mid new : HistoryCheck) (before : List TextLine) (said : TextLine) (number : ℕ)
-    → HasRead judging old before → mid.judging ≡ old.judging → mid.waits.items ≡ old.waits.items
+    → HasRead judging old before → mid.judging ≡ old.judging → mid.waits.items ≡ old.waits.items → mid.numbers.items ≡ old.numbers.items
+    → keeps_order mid.judge ≡ keeps_order old.judge
     → Knows judging.runs mid.judge (history_of before ++ said_by said) → Passes mid new number said → number ≡ old.before + 1
     → HasRead judging new (before ++ said ∷ [])
-line_passed judging old mid new before said number read same waits knows passes is =
+line_passed judging old mid new before said number read same waits numbers keeps knows passes is =
     let one = length-append before (said ∷ []) in
     let next : old.before + 1 ≡ 1 + length before = omega (arith, read.counted) in record {
       is_judging = passes.judging ∙ same ∙ read.is_judging;
@@ -73,7 +79,12 @@ line_passed judging old mid new before said number read same waits knows passes 
           (subst (λ (l : _). Knows judging.runs mid.judge l) (sym (history_more before said)) knows);
       counted = omega (arith, passes.before, is, read.counted, one);
       waits = passes.waits ∙ ap (λ (l : List OpenWait). waits_behind number l said) (waits ∙ read.waits)
-          ∙ ap (λ (n : ℕ). waits_behind n (waits_after before) said) (is ∙ next) ∙ sym (waits_more 1 [] before said);
+          ∙ ap (λ (n : ℕ). waits_behind n (waits_after before) said) (is ∙ next) ∙ sym (behind_more waits_behind 1 [] before said);
+      keeps = λ on. ap keeps_order passes.judge ∙ keeps ∙ read.keeps on;
+      numbers = λ on.
+          passes.numbers (ap (λ (j : Judging). j.order) (same ∙ read.is_judging) ∙ on)
+          ∙ ap (λ (l : List ℕ). numbers_behind number l said) (numbers ∙ read.numbers on)
+          ∙ ap (λ (n : ℕ). numbers_behind n (numbers_after before) said) (is ∙ next) ∙ sym (behind_more numbers_behind 1 [] before said);
     }
 
 says_same : (runs : Bool) (judge : HistoryJudge) (before : List TextLine) (line : List ℕ) (said : Result TextLine Cause) → Knows runs judge (history_of before)
@@ -95,14 +106,15 @@ known_still runs judge before said is knows =
 -- so it was judged
 pub line_said : (judging : Judging) (old mid new : HistoryCheck) (before : List TextLine) (said : TextLine) (number : ℕ)
     → HasRead judging old before → LineGives (requested_in old.judge) old.line.items (Ok said) → mid.judging ≡ old.judging
-    → mid.waits.items ≡ old.waits.items → mid.found ≡ None → Knows judging.runs mid.judge (history_of before ++ said_by said)
+    → mid.waits.items ≡ old.waits.items → mid.numbers.items ≡ old.numbers.items → keeps_order mid.judge ≡ keeps_order old.judge
+    → mid.found ≡ None → Knows judging.runs mid.judge (history_of before ++ said_by said)
     → Passes mid new number said → number ≡ old.before + 1 → Judges judging old new before
 unfolding Judges
-line_said judging old mid new before said number read gives same waits unfound knows passes is =
+line_said judging old mid new before said number read gives same waits numbers keeps unfound knows passes is =
     subst (λ (f : Option Finding). IsFoundAt judging new before old.line.items f) (sym (passes.found ∙ unfound)) (
       said,
       says_same judging.runs old.judge before old.line.items (Ok said) read.knows gives,
-      line_passed judging old mid new before said number read same waits knows passes is,
+      line_passed judging old mid new before said number read same waits numbers keeps knows passes is,
       passes.line,
     )
 
@@ -140,13 +152,13 @@ line_faulty judging old new before cause read gives count found =
 
 -- none came
 pub fresh : (judging : Judging) (check : HistoryCheck) → check.judging ≡ judging → Knows judging.runs check.judge [] → check.waits.items ≡ []
-    → check.line.items ≡ [] → check.before ≡ 0 → check.found ≡ None → HasChecked judging check []
+    → (judging.order ≡ true → keeps_order check.judge ≡ true) → check.numbers.items ≡ [] → check.line.items ≡ [] → check.before ≡ 0 → check.found ≡ None → HasChecked judging check []
 unfolding HasChecked
-fresh judging check is knows no_waits none first unfound =
+fresh judging check is knows no_waits keeps no_numbers none first unfound =
     subst (IsFoundOf judging check []) (sym unfound)
     (record {
       before = [];
-      read = record { is_judging = is; knows = knows; counted = first; waits = no_waits };
+      read = record { is_judging = is; knows = knows; counted = first; waits = no_waits; keeps = keeps; numbers = λ on. no_numbers };
       leads = subst (LeadsTo judging [] []) (sym none) (λ extent rest verdict come. come);
       in_line = subst InLine (sym none) (λ k d below. absurd (omega (arith, below)));
       short = subst (λ (l : List ℕ). length l ≤ line_limit) (sym none) (omega arith);
@@ -162,7 +174,7 @@ read_of judging check bytes unfound is = subst (IsFoundOf judging check bytes) u
 ends_by : (judging : Judging) (old new : HistoryCheck) (bytes : List ℕ) (read : HasReadBytes judging old bytes) (found : Option Finding)
     → IsFoundAt judging new read.before old.line.items found → IsFoundOf judging new (bytes ++ 10 ∷ []) found
 ends_by judging old new bytes read None is =
-    let legal = is.2.knows.legal in record {
+    let legal = is.2.knows.known.legal in record {
       before = read.before ++ is.0 ∷ [];
       read = is.2;
       leads = subst (LeadsTo judging (bytes ++ 10 ∷ []) (read.before ++ is.0 ∷ [])) (sym is.3)
@@ -184,9 +196,9 @@ ended judging old new bytes unfound checked judged =
 -- another byte
 pub grown : (judging : Judging) (old new : HistoryCheck) (bytes : List ℕ) (byte : ℕ) → old.found ≡ None → HasChecked judging old bytes
     → (byte == 10) ≡ false → length old.line.items < line_limit → new.judging ≡ old.judging → new.judge ≡ old.judge → new.waits ≡ old.waits
-    → new.before ≡ old.before → new.found ≡ old.found → new.line.items ≡ old.line.items ++ byte ∷ [] → HasChecked judging new (bytes ++ byte ∷ [])
+    → new.numbers ≡ old.numbers → new.before ≡ old.before → new.found ≡ old.found → new.line.items ≡ old.line.items ++ byte ∷ [] → HasChecked judging new (bytes ++ byte ∷ [])
 unfolding HasChecked
-grown judging old new bytes byte unfound checked goes short same judge waits count still longer =
+grown judging old new bytes byte unfound checked goes short same judge waits numbers count still longer =
     let read = read_of judging old bytes unfound checked in
     let before = read.read in
     subst (IsFoundOf judging new (bytes ++ byte ∷ [])) (sym (still ∙ unfound))
@@ -197,6 +209,8 @@ grown judging old new bytes byte unfound checked goes short same judge waits cou
         knows = subst (λ (j : HistoryJudge). Knows judging.runs j (history_of read.before)) (sym judge) before.knows;
         counted = count ∙ before.counted;
         waits = ap (λ w. w.items) waits ∙ before.waits;
+        keeps = λ on. ap keeps_order judge ∙ before.keeps on;
+        numbers = λ on. ap (λ w. w.items) numbers ∙ before.numbers on;
       };
       leads = subst (LeadsTo judging (bytes ++ byte ∷ []) read.before) (sym longer) (line_grows judging bytes old.line.items byte read.before read.leads);
       in_line = subst InLine (sym longer) (All-push (λ (b : ℕ). (b == 10) ≡ false) old.line.items byte read.in_line goes);
@@ -307,7 +321,7 @@ no_last_line judging check bytes unfound none checked =
 last_by : (judging : Judging) (old new : HistoryCheck) (bytes : List ℕ) (read : HasReadBytes judging old bytes) (found : Option Finding)
     → 0 < length old.line.items → IsFoundAt judging new read.before old.line.items found → AreLinesRead judging new bytes found
 last_by judging old new bytes read None some is =
-    let legal = is.2.knows.legal in (
+    let legal = is.2.knows.known.legal in (
       read.before ++ is.0 ∷ [],
       is.2,
       λ verdict come. last_leads judging bytes old.line.items read.before verdict read.in_line some read.leads (Ok is.0, is.1, inl (legal, come)),
@@ -354,17 +368,81 @@ told_so told is iff = iff.0 is
 pub not_told : {P : Type 0} (told : Bool) → told ≡ false → IsTrue told ↔ P → P → ⊥
 not_told told is iff = λ p. let so = iff.1 p in absurd (cc)
 
+-- what was found is no order
+found_no_order : (judging : Judging) (check : HistoryCheck) (finding : Finding) → IsSound judging (verdict_of check finding)
+found_no_order judging check (findings.Illegal answer) = tt
+found_no_order judging check (findings.Faulty cause) = tt
+found_no_order judging check findings.LostWakeUps = tt
+found_no_order judging check findings.TooLong = tt
+
+pub found_sound : (judging : Judging) (check : HistoryCheck) (found : Option Finding) → is_some found ≡ true → IsSound judging (verdict_at check found)
+found_sound judging check None some = absurd (cc)
+found_sound judging check (Some finding) some = found_no_order judging check finding
+
+-- by which line of the text something is told changes no lock
+still_leaves : (numbers : List ℕ) (locks : ℕ → FileLocks) (order : List FileHappening) (last : ℕ → FileLocks) → Leave locks order last
+    → Leave locks (map (by_number numbers) order) last
+still_leaves numbers locks [] last leave = leave
+still_leaves numbers locks (happening ∷ order) last leave = (
+  leave.0,
+  record { may_do = leave.1.may_do; others = leave.1.others },
+  still_leaves numbers leave.0 order last leave.2,
+)
+
+ordered_sound : (judging : Judging) (before : List TextLine) (verdict : Verdict) → judging.order ≡ true → OrderComes judging before verdict → IsSound judging verdict
+ordered_sound judging before verdict on comes =
+    subst (IsSound judging) (sym comes.2)
+    (on, ((λ file. (comes.1.last file).locks), still_leaves (numbers_after before) no_locks comes.0 (λ file. (comes.1.last file).locks) comes.1.leave))
+
+-- what a legal history comes to is an order where one is asked for
+pub legal_sound : (judging : Judging) (before : List TextLine) (verdict : Verdict) → LegalComes judging before verdict → IsSound judging verdict
+legal_sound judging before verdict legal = elim (cases_Bool judging.order) [
+  | inl on ↦ ordered_sound judging before verdict on
+      (subst (λ (b : Bool). MatchBool b (OrderComes judging before verdict) (verdict ≡ Legal)) on legal)
+  | inr off ↦
+      let is : verdict ≡ Legal = subst (λ (b : Bool). MatchBool b (OrderComes judging before verdict) (verdict ≡ Legal)) off legal in
+      subst (IsSound judging) (sym is) tt
+]
+
+-- so it is at the end
+pub sound_at_end : (judging : Judging) (check : HistoryCheck) (bytes : List ℕ) (verdict : Verdict) → check.found ≡ None → HasReadLines judging check bytes
+    → ((before : List TextLine) → HasRead judging check before → LegalComes judging before verdict) → IsSound judging verdict
+unfolding HasReadLines
+sound_at_end judging check bytes verdict unfound read legal =
+    let lines = subst (AreLinesRead judging check bytes) unfound read in
+    legal_sound judging lines.0 verdict (legal lines.0 lines.1)
+
+-- a legal history, of which no order is asked for
+pub legal_unordered : (judging : Judging) (check : HistoryCheck) (before : List TextLine) → check.judging.order ≡ false → HasRead judging check before
+    → LegalComes judging before Legal
+legal_unordered judging check before off read =
+    let is : judging.order ≡ false = ap (λ (j : Judging). j.order) (sym read.is_judging) ∙ off in rw is refl
+
+-- or one is
+pub legal_ordered : (judging : Judging) (check : HistoryCheck) (before : List TextLine) (verdict : Verdict) → check.judging.order ≡ true
+    → HasRead judging check before → (judging.order ≡ true → OrderComes judging before verdict) → LegalComes judging before verdict
+legal_ordered judging check before verdict on read comes =
+    let is : judging.order ≡ true = ap (λ (j : Judging). j.order) (sym read.is_judging) ∙ on in
+    let order = comes is in
+    rw is order
+
+-- what the judge told is an order of the lines
+pub order_told : (judging : Judging) (check : HistoryCheck) (before : List TextLine) (order told : List FileHappening) → IsLeft judging.runs (history_of before) order
+    → told ≡ map (by_number check.numbers.items) order → judging.order ≡ true → HasRead judging check before → OrderComes judging before (Ordered told)
+order_told judging check before order told left is on read =
+    (order, left, ap (λ t. Ordered t) (is ∙ ap (λ n. map (by_number n) order) (read.numbers on)))
+
 -- where the end is asked for nothing it is legal
-pub ends_unasked : (judging : Judging) (check : HistoryCheck) (before : List TextLine) → check.judging.open_waits ≡ false
-    → HasRead judging check before → EndComes judging before Legal
-ends_unasked judging check before off read =
-    let is : judging.open_waits ≡ false = ap (λ (j : Judging). j.open_waits) (sym read.is_judging) ∙ off in rw is refl
+pub ends_unasked : (judging : Judging) (check : HistoryCheck) (before : List TextLine) (verdict : Verdict) → check.judging.open_waits ≡ false
+    → LegalComes judging before verdict → HasRead judging check before → EndComes judging before verdict
+ends_unasked judging check before verdict off legal read =
+    let is : judging.open_waits ≡ false = ap (λ (j : Judging). j.open_waits) (sym read.is_judging) ∙ off in rw is legal
 
 -- and where each open wait may wait still
-pub ends_waiting : (judging : Judging) (check : HistoryCheck) (before : List TextLine) → check.judging.open_waits ≡ true
-    → MayEnd judging.runs (history_of before) → HasRead judging check before → EndComes judging before Legal
-ends_waiting judging check before on may read =
-    let is : judging.open_waits ≡ true = ap (λ (j : Judging). j.open_waits) (sym read.is_judging) ∙ on in rw is (inl (may, refl))
+pub ends_waiting : (judging : Judging) (check : HistoryCheck) (before : List TextLine) (verdict : Verdict) → check.judging.open_waits ≡ true
+    → MayEnd judging.runs (history_of before) → LegalComes judging before verdict → HasRead judging check before → EndComes judging before verdict
+ends_waiting judging check before verdict on may legal read =
+    let is : judging.open_waits ≡ true = ap (λ (j : Judging). j.open_waits) (sym read.is_judging) ∙ on in rw is (inl (may, legal))
 
 -- or else these waits are told
 pub ends_lost : (judging : Judging) (check : HistoryCheck) (before : List TextLine) → check.judging.open_waits ≡ true

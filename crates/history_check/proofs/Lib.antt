@@ -3,3 +3,4 @@ pub mod CheckLemmas
 pub mod EndLemmas
 pub mod NameLemmas
 pub mod TextLemmas
+pub mod OrderLemmas

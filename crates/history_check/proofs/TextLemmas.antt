@@ -3,8 +3,7 @@ use Rattle.std.proofs.Common.{◌≡◌, ◌==◌, ℕ, true, false, Bool, Resul
 use Rattle.std.specs.Prelude.{filter, not}
 use Rattle.std.proofs.lemmas.Grind.{flat_map-append}
 use Rattle.std.proofs.lemmas.List.Elements.{All-push, filter_passes}
-use Rattle.history_check.specs.declared.open_waits.OpenWait.{OpenWait}
-use Rattle.history_check.specs.Told.{InLine, IsComment, comment_line, wait_line}
+use Rattle.history_check.specs.Told.{InLine, IsComment, comment_line}
 
 is_no_end : (is_end : Bool) → not is_end ≡ true → is_end ≡ false
 is_no_end true marked = sym marked
@@ -37,15 +36,21 @@ joined_three text a b c = simp append_assoc
 pub joined_four : (text a b c d : List ℕ) → (((text ++ a) ++ b) ++ c) ++ d ≡ text ++ (((a ++ b) ++ c) ++ d)
 joined_four text a b c d = simp append_assoc
 
+pub joined_five : (text a b c d e : List ℕ) → ((((text ++ a) ++ b) ++ c) ++ d) ++ e ≡ text ++ ((((a ++ b) ++ c) ++ d) ++ e)
+joined_five text a b c d e = simp append_assoc
+
 pub joined_six : (text a b c d e f : List ℕ) → (((((text ++ a) ++ b) ++ c) ++ d) ++ e) ++ f ≡ text ++ (((((a ++ b) ++ c) ++ d) ++ e) ++ f)
 joined_six text a b c d e f = simp append_assoc
 
--- the line of an open wait, piece by piece
-pub wait_told : {T E : Type 0} (result : Result T E) (t0 t1 t2 t3 t4 : List ℕ) (wait : OpenWait) → t1 ≡ t0 ++ decimal wait.id
-    → t2 ≡ t1 ++ codes " waits since " → t3 ≡ t2 ++ decimal wait.since → OnOk result (t4 ≡ t3 ++ 10 ∷ []) → OnOk result (t4 ≡ t0 ++ wait_line wait)
-wait_told (Ok done) t0 t1 t2 t3 t4 wait one two three four =
+pub joined_seven : (text a b c d e f g : List ℕ)
+    → ((((((text ++ a) ++ b) ++ c) ++ d) ++ e) ++ f) ++ g ≡ text ++ ((((((a ++ b) ++ c) ++ d) ++ e) ++ f) ++ g)
+joined_seven text a b c d e f g = simp append_assoc
+
+-- four pieces, one after another
+pub four_told : {T E : Type 0} (result : Result T E) (t0 t1 t2 t3 t4 a b c d : List ℕ) → t1 ≡ t0 ++ a → t2 ≡ t1 ++ b → t3 ≡ t2 ++ c
+    → OnOk result (t4 ≡ t3 ++ d) → OnOk result (t4 ≡ t0 ++ (((a ++ b) ++ c) ++ d))
+four_told (Ok done) t0 t1 t2 t3 t4 a b c d one two three four =
     four
-    ∙ ap (λ (l : List ℕ). l ++ 10 ∷ [])
-    (three ∙ ap (λ (l : List ℕ). l ++ decimal wait.since) (two ∙ ap (λ (l : List ℕ). l ++ codes " waits since ") one))
-    ∙ joined_four t0 (decimal wait.id) (codes " waits since ") (decimal wait.since) (10 ∷ [])
-wait_told (Err error) t0 t1 t2 t3 t4 wait one two three four = tt
+    ∙ ap (λ (l : List ℕ). l ++ d) (three ∙ ap (λ (l : List ℕ). l ++ c) (two ∙ ap (λ (l : List ℕ). l ++ b) one))
+    ∙ joined_four t0 a b c d
+four_told (Err error) t0 t1 t2 t3 t4 a b c d one two three four = tt

@@ -1,17 +1,18 @@
 -- How far a history was judged.
-use Rattle.std.specs.Prelude.{◌≡◌, ◌≢◌, ℕ, ◌+◌, ◌≤◌, ⊤, Option, Some, None, option_map, Ok, List, [], ◌∷◌, ◌++◌, length}
+use Rattle.std.specs.Prelude.{◌≡◌, ◌≢◌, ℕ, ◌+◌, ◌≤◌, ⊤, true, Option, Some, None, option_map, Ok, List, [], ◌∷◌, ◌++◌, length}
 use Rattle.script_core.specs.Words.{line_limit}
 use Rattle.history_core.specs.declared.request.Action.{Action}
 use Rattle.history_text.specs.declared.line.HistoryLine.{HistoryLine as TextLine}
 use Rattle.history_text.specs.declared.line.HistoryLine.TheVariants as texts
 use Rattle.history_text.specs.HistoryReading.{LineGives}
 use Rattle.history_judge.specs.declared.judge.HistoryJudge.{HistoryJudge}
-use Rattle.history_judge.specs.JudgeView.{Exceeds, Knows, open_in}
+use Rattle.history_judge.specs.declared.order.FileHappening.{FileHappening}
+use Rattle.history_judge.specs.JudgeView.{Exceeds, Knows, keeps_order, open_in}
 use Rattle.history_check.specs.declared.judging.Judging.{Judging}
 use Rattle.history_check.specs.declared.check.Finding.{Finding}
 use Rattle.history_check.specs.declared.check.Finding.TheVariants as findings
 use Rattle.history_check.specs.declared.check.HistoryCheck.{HistoryCheck}
-use Rattle.history_check.specs.Verdicts.{BytesCome, Extent, Faulty, HistoryComes, Illegal, Legal, LinesCome, LostWakeUps, Verdict, Whole, history_of, lines_told, requested_after, too_long, waits_after, waits_behind}
+use Rattle.history_check.specs.Verdicts.{BytesCome, Extent, Faulty, HistoryComes, Illegal, Legal, LinesCome, LostWakeUps, Ordered, Verdict, Whole, history_of, lines_told, numbers_after, numbers_behind, requested_after, too_long, waits_after, waits_behind}
 use Rattle.history_check.specs.Told.{InLine}
 
 -- what the open request of an ID asks for, by what the judge has read
@@ -34,6 +35,8 @@ pub record HasRead (judging : Judging) (check : HistoryCheck) (before : List Tex
   pub knows : Knows judging.runs check.judge (history_of before)
   pub counted : check.before ≡ length before
   pub waits : check.waits.items ≡ waits_after before
+  pub keeps : judging.order ≡ true → keeps_order check.judge ≡ true
+  pub numbers : judging.order ≡ true → check.numbers.items ≡ numbers_after before
 
 -- whatever follows the bytes, they come to what the line at hand comes to with what follows it, behind these lines
 abbrev pub LeadsTo : Judging → List ℕ → List TextLine → List ℕ → Type 0
@@ -58,6 +61,7 @@ pub record Passes (old new : HistoryCheck) (number : ℕ) (said : TextLine) : Ty
   pub judging : new.judging ≡ old.judging
   pub judge : new.judge ≡ old.judge
   pub waits : new.waits.items ≡ waits_behind number old.waits.items said
+  pub numbers : old.judging.order ≡ true → new.numbers.items ≡ numbers_behind number old.numbers.items said
   pub line : new.line.items ≡ []
   pub before : new.before ≡ number
   pub found : new.found ≡ old.found
@@ -100,9 +104,14 @@ AreLinesRead judging check bytes (Some finding) = BytesCome judging Whole bytes 
 unfoldable pub HasReadLines : Judging → HistoryCheck → List ℕ → Type 0
 HasReadLines judging check bytes = AreLinesRead judging check bytes check.found
 
+-- the verdict where the history is legal, and this order is kept, if one
+abbrev pub legal_of : Option (List FileHappening) → Verdict
+legal_of None = Legal
+legal_of (Some told) = Ordered told
+
 -- the verdict where this was found
 abbrev pub verdict_at : HistoryCheck → Option Finding → Verdict
-verdict_at check None = Legal
+verdict_at check None = legal_of (option_map (λ order. order.items) check.order)
 verdict_at check (Some finding) = verdict_of check finding
 
 -- the verdict by what was found

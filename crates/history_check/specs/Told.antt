@@ -2,10 +2,13 @@
 use Rattle.std.specs.Prelude.{◌≡◌, ℕ, ◌==◌, false, List, [], ◌∷◌, ◌++◌, All, codes, decimal, flat_map}
 use Rattle.history_core.specs.declared.request.Answer.{Answer}
 use Rattle.history_text.specs.HistoryText.{answer_text}
+use Rattle.history_judge.specs.HistoryOrders.{no_locks}
+use Rattle.history_check.specs.declared.judging.LockStates.{LockStates}
+use Rattle.history_check.specs.OrderTold.{IsOrderText}
 use Rattle.history_check.specs.declared.judging.HistoryOutcome.{HistoryOutcome}
 use Rattle.history_check.specs.declared.judging.HistoryOutcome.TheVariants as outcomes
 use Rattle.history_check.specs.declared.open_waits.OpenWait.{OpenWait}
-use Rattle.history_check.specs.Verdicts.{Faulty, Illegal, Legal, LostWakeUps, Verdict}
+use Rattle.history_check.specs.Verdicts.{Faulty, Illegal, Legal, LostWakeUps, Ordered, Verdict}
 
 -- the line that tells the first answer that isn't possible
 abbrev pub illegal_line : ℕ → Answer → List ℕ
@@ -29,17 +32,20 @@ pub record IsComment (text : List ℕ) : Type 0 where
   pub in_line : All InLine lines
   pub are : text ≡ flat_map comment_line lines
 
--- what is printed of a verdict: nothing where the history is legal or faulty; the first answer that isn't possible, with lines of comments
+-- what is printed of a verdict: nothing where the history is faulty, or legal with no order kept; each effect of the order, with the
+-- locks behind the lines that are asked for; the first answer that isn't possible, with lines of comments
 -- behind it; or each open wait
-abbrev pub IsTold : Verdict → List ℕ → Type 0
-IsTold Legal text = text ≡ []
-IsTold (Illegal number answer) text = (comment : List ℕ) × IsComment comment × (text ≡ illegal_line number answer ++ comment)
-IsTold (LostWakeUps waits) text = text ≡ flat_map wait_line waits
-IsTold (Faulty fault) text = text ≡ []
+abbrev pub IsTold : LockStates → Verdict → List ℕ → Type 0
+IsTold states Legal text = text ≡ []
+IsTold states (Ordered told) text = IsOrderText states 0 no_locks told text
+IsTold states (Illegal number answer) text = (comment : List ℕ) × IsComment comment × (text ≡ illegal_line number answer ++ comment)
+IsTold states (LostWakeUps waits) text = text ≡ flat_map wait_line waits
+IsTold states (Faulty fault) text = text ≡ []
 
 -- the verdict without what is printed of it
 abbrev pub outcome_of : Verdict → HistoryOutcome
 outcome_of Legal = outcomes.Legal
+outcome_of (Ordered told) = outcomes.Legal
 outcome_of (Illegal number answer) = outcomes.Illegal
 outcome_of (LostWakeUps waits) = outcomes.LostWakeUps
 outcome_of (Faulty fault) = outcomes.Faulty fault

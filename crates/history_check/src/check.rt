@@ -1,20 +1,22 @@
 //! A history that is judged byte by byte.
-ghost use Rattle.std.specs.Prelude.{◌≡◌, ◌≢◌, ◌≤◌, ◌<◌, ◌+◌, ◌++◌, ◌∷◌, ◌^◌, [], ℕ, List, None, Ok, Err, IsTrue, IfOk, OnOk, length};
+ghost use Rattle.std.specs.Prelude.{◌≡◌, ◌≢◌, ◌≤◌, ◌<◌, ◌+◌, ◌++◌, ◌∷◌, ◌^◌, [], ℕ, List, None, Ok, Err, true, IsTrue, IfOk, OnOk, length, option_map};
 ghost use Rattle.history_core.specs.declared.search.SearchFault.{SearchFault};
-ghost use Rattle.history_judge.specs.JudgeView.{Exceeds};
+ghost use Rattle.history_judge.specs.JudgeView.{Exceeds, Knows, keeps_order, open_in};
 ghost use Rattle.history_text.specs.declared.line.HistoryLine.{HistoryLine};
 ghost use Rattle.history_text.specs.HistoryReading.{LineGives};
 ghost use Rattle.history_check.specs.declared.judging.Judging.{Judging};
-ghost use Rattle.history_check.specs.Verdicts.{AreJudged, history_limit};
-ghost use Rattle.history_check.specs.Checked.{HasChecked, HasJudged, HasRead, HasReadLines, IsLimited, Judges, Passes, lines_in, requested_in, verdict_in};
+ghost use Rattle.history_check.specs.Verdicts.{AreJudged, IsSound, LegalComes, OrderComes, history_limit};
+ghost use Rattle.history_check.specs.Checked.{HasChecked, HasJudged, HasRead, HasReadLines, IsLimited, Judges, Passes, legal_of, lines_in, requested_in, verdict_in};
 ghost use Rattle.history_check.specs.Told.{IsTold, outcome_of};
 
-use crate::judging::{HistoryOutcome, Judging};
+use crate::judging::{HistoryOutcome, Judging, LockStates};
 use crate::open_waits::{OpenWait, read_waits};
+use crate::order::{by_number, read_number};
+use crate::order_text::push_order;
 use crate::reading::{answer, read_line, send};
 use crate::told::{push_illegal, push_waits};
 use history_core::{Answer, SearchFault};
-use history_judge::HistoryJudge;
+use history_judge::{FileHappening, HistoryJudge};
 use history_text::HistoryLine;
 use range_core::Memory;
 use script_core::{Cause, LINE_MAX, ScriptFault};
@@ -45,6 +47,10 @@ pub struct HistoryCheck {
     line: Vec<u8>,
     /// How many lines came before it.
     before: u64,
+    /// The number of each line that told something, where an order is kept.
+    numbers: Vec<u64>,
+    /// An order of the effects, each behind the number of a line, once a legal history was judged of which one is kept.
+    order: Option<Vec<FileHappening>>,
     /// What was found. Once something is, what follows changes nothing.
     found: Option<Finding>,
 }
@@ -57,18 +63,21 @@ impl HistoryCheck {
     {
         HistoryCheck {
             judging,
-            judge: HistoryJudge::new(alloc, judging.runs),
+            judge: judge_for(alloc, judging),
             waits: Vec::new(alloc),
             line: Vec::new(alloc),
             before: 0,
+            numbers: Vec::new(alloc),
+            order: None,
             found: None,
         }
     }
 
     /// Whether the bytes that came decide what the history comes to, whatever follows.
     pub fn is_decided(&self) -> bool
-        ensures { IsTrue result → (judging : Judging) (bytes : List ℕ) → length bytes ≤ history_limit → HasChecked judging self.now bytes
+        ensures decides { IsTrue result → (judging : Judging) (bytes : List ℕ) → length bytes ≤ history_limit → HasChecked judging self.now bytes
             → AreJudged judging bytes (verdict_in self.now) }
+        ensures sound { IsTrue result → (judging : Judging) → IsSound judging (verdict_in self.now) }
     {
         self.found.is_some()
     }
@@ -100,6 +109,7 @@ impl HistoryCheck {
         requires { lines_in self.old + 1 < 2 ^ 64 }
         ensures judged { (judging : Judging) (bytes : List ℕ) → length bytes ≤ history_limit → HasChecked judging self.old bytes
             → OnOk result (HasJudged judging self.new bytes) }
+        ensures sound { (judging : Judging) (bytes : List ℕ) → HasChecked judging self.old bytes → OnOk result (IsSound judging (verdict_in self.new)) }
         ensures limit { result ≡ Err SearchFault.Limit → (judging : Judging) (bytes : List ℕ) → HasChecked judging self.old bytes
             → IsLimited judging bytes }
         ensures lines { OnOk result (lines_in self.new ≤ lines_in self.old + 1) }
@@ -109,18 +119,20 @@ impl HistoryCheck {
             return Ok(());
         }
         if !self.judging.open_waits {
-            return Ok(());
+            return Ok(self.keep_order()?);
         }
         if !self.judge.may_end(self.judging.limit)? {
             self.found = Some(Finding::LostWakeUps);
+            return Ok(());
         }
-        Ok(())
+        Ok(self.keep_order()?)
     }
 
     /// Judges the history where one byte more follows than a history may have: what came decides, or else it is too long.
     pub fn cut_off(&mut self)
         ensures judged { (judging : Judging) (bytes : List ℕ) (byte : ℕ) → length bytes ≡ history_limit → HasChecked judging self.old bytes
             → AreJudged judging (bytes ++ byte ∷ []) (verdict_in self.new) }
+        ensures sound { (judging : Judging) → IsSound judging (verdict_in self.new) }
         ensures lines { lines_in self.new ≡ lines_in self.old }
     {
         if self.found.is_some() {
@@ -149,10 +161,10 @@ impl HistoryCheck {
         }
     }
 
-    /// What is printed of it: nothing of one that is legal or faulty.
-    pub fn told(&self, alloc: Global) -> Result<Vec<u8>, Memory>
+    /// What is printed of it: nothing of one that is faulty, or legal with no order kept; of an order the locks too, behind these lines.
+    pub fn told(&self, alloc: Global, states: LockStates) -> Result<Vec<u8>, Memory>
         requires { lines_in self.now + 1 < 2 ^ 64 }
-        ensures { IfOk result (λ text. IsTold (verdict_in self.now) text.items) }
+        ensures { (judging : Judging) → IsSound judging (verdict_in self.now) → IfOk result (λ text. IsTold states (verdict_in self.now) text.items) }
     {
         let mut text = Vec::new(alloc);
         match self.found {
@@ -165,7 +177,12 @@ impl HistoryCheck {
                 )?;
             }
             Some(Finding::LostWakeUps) => push_waits(&mut text, &self.waits)?,
-            Some(Finding::Faulty(_) | Finding::TooLong) | None => {}
+            None => {
+                if let Some(order) = &self.order {
+                    push_order(&mut text, order, states)?;
+                }
+            }
+            Some(Finding::Faulty(_) | Finding::TooLong) => {}
         }
         Ok(text)
     }
@@ -220,6 +237,33 @@ impl HistoryCheck {
         self.end_line()
     }
 
+    /// Keeps an order of the effects, where one is asked for.
+    fn keep_order(&mut self) -> Result<(), Memory>
+        requires { self.old.found ≡ None }
+        ensures legal { (judging : Judging) (before : List HistoryLine) → HasRead judging self.old before
+            → OnOk result (LegalComes judging before (verdict_in self.new)) }
+        ensures lines { lines_in self.new ≡ lines_in self.old }
+    {
+        if !self.judging.order {
+            self.order = None;
+            return Ok(());
+        }
+        self.order = self.text_order()?;
+        Ok(())
+    }
+
+    /// An order of the effects, each behind the number of a line, where one is kept.
+    fn text_order(&self) -> Result<Option<Vec<FileHappening>>, Memory>
+        ensures { (judging : Judging) (before : List HistoryLine) → HasRead judging self.now before → judging.order ≡ true
+            → IfOk result (λ told. OrderComes judging before (legal_of (option_map (λ order. order.items) told))) }
+    {
+        let Some(order) = self.judge.order()? else {
+            return Ok(None);
+        };
+        let told = by_number(*self.line.allocator(), &order, &self.numbers)?;
+        Ok(Some(told))
+    }
+
     /// The line at hand has come to its end.
     fn end_line(&mut self) -> Result<(), SearchFault>
         requires few { lines_in self.old + 1 < 2 ^ 64 }
@@ -271,8 +315,24 @@ impl HistoryCheck {
         ensures ok { OnOk result (Passes self.old self.new number said) }
     {
         read_waits(&mut self.waits, number, said)?;
+        if self.judging.order {
+            read_number(&mut self.numbers, number, said)?;
+        }
         self.line.clear();
         self.before = number;
         Ok(())
+    }
+}
+
+/// A judge that has read no line.
+fn judge_for(alloc: Global, judging: Judging) -> HistoryJudge
+    ensures knows { Knows judging.runs result [] }
+    ensures open { (id : ℕ) → open_in result id ≡ None }
+    ensures keeps { judging.order ≡ true → keeps_order result ≡ true }
+{
+    if judging.order {
+        HistoryJudge::keeping_order(alloc, judging.runs)
+    } else {
+        HistoryJudge::new(alloc, judging.runs)
     }
 }

@@ -5,11 +5,13 @@
 mod check;
 mod judging;
 mod open_waits;
+mod order;
+mod order_text;
 mod reading;
 mod told;
 
 pub use check::HistoryCheck;
-pub use judging::{HistoryOutcome, Judging};
+pub use judging::{HistoryOutcome, Judging, LockStates};
 pub use open_waits::OpenWait;
 
 /// The most bytes that a history may have (this project's choice).

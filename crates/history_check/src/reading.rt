@@ -2,7 +2,7 @@
 ghost use Rattle.std.specs.Prelude.{◌≡◌, ◌≢◌, None, Err, OnOk, IfOk, true, false};
 ghost use Rattle.history_core.specs.declared.search.SearchFault.{SearchFault};
 ghost use Rattle.history_judge.specs.Histories.{Answered, Sent};
-ghost use Rattle.history_judge.specs.JudgeView.{Exceeds, Refuses, Takes};
+ghost use Rattle.history_judge.specs.JudgeView.{Exceeds, Refuses, Takes, keeps_order};
 ghost use Rattle.history_text.specs.HistoryReading.{LineGives};
 ghost use Rattle.history_check.specs.Checked.{requested_in};
 
@@ -45,6 +45,7 @@ pub fn send(
     requires { requested_in judge.old request.id ≡ None }
     ensures ok { OnOk result (Takes judge.old judge.new (Sent file request)) }
     ensures limit { result ≡ Err SearchFault.Limit → Exceeds judge.old limit }
+    ensures keeps { keeps_order judge.new ≡ keeps_order judge.old }
 {
     match judge.send(number, file, request, limit) {
         Ok(()) => Ok(()),
@@ -67,6 +68,7 @@ pub fn answer(
     ensures legal { IfOk result (λ is_possible. is_possible ≡ true → Takes judge.old judge.new (Answered id answer)) }
     ensures illegal { IfOk result (λ is_possible. is_possible ≡ false → Refuses judge.old (Answered id answer)) }
     ensures limit { result ≡ Err SearchFault.Limit → Exceeds judge.old limit }
+    ensures keeps { keeps_order judge.new ≡ keeps_order judge.old }
 {
     match judge.answer(id, answer, limit) {
         Ok(()) => Ok(true),

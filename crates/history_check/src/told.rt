@@ -107,14 +107,14 @@ fn push_without_ends(text: &mut Vec<u8>, line: &[u8]) -> Result<(), Memory>
 }
 
 /// Appends a piece.
-fn push_str(text: &mut Vec<u8>, piece: &str) -> Result<(), Memory>
+pub fn push_str(text: &mut Vec<u8>, piece: &str) -> Result<(), Memory>
     ensures { OnOk result (text.new.items ≡ text.old.items ++ piece.now) }
 {
     Ok(text.extend_from_slice(piece.as_bytes())?)
 }
 
 /// Appends a number.
-fn push_number(text: &mut Vec<u8>, number: u64) -> Result<(), Memory>
+pub fn push_number(text: &mut Vec<u8>, number: u64) -> Result<(), Memory>
     ensures { OnOk result (text.new.items ≡ text.old.items ++ decimal number) }
 {
     push_str(text, Buffer::new().format(number))

@@ -2,8 +2,9 @@
 mod faults;
 mod judged;
 mod large;
+mod orders;
 
-use history_check::{HistoryCheck, HistoryOutcome, Judging};
+use history_check::{HistoryCheck, HistoryOutcome, Judging, LockStates};
 use history_core::SearchFault;
 use std::alloc::Global;
 use std::test::Fail;
@@ -12,6 +13,8 @@ use std::test::Fail;
 const PLAIN: Judging = Judging {
     runs: false,
     open_waits: false,
+    order: false,
+    states: LockStates::Nowhere,
     limit: 1000,
 };
 
@@ -19,6 +22,17 @@ const PLAIN: Judging = Judging {
 const OPEN: Judging = Judging {
     runs: false,
     open_waits: true,
+    order: false,
+    states: LockStates::Nowhere,
+    limit: 1000,
+};
+
+/// The same as the first, with an order of the effects told.
+const ORDER: Judging = Judging {
+    runs: false,
+    open_waits: false,
+    order: true,
+    states: LockStates::Nowhere,
     limit: 1000,
 };
 
@@ -34,6 +48,6 @@ fn judge(
     check.take_all(front)?;
     check.take_all(rest)?;
     check.end()?;
-    let told = check.told(alloc)?;
+    let told = check.told(alloc, judging.states)?;
     Ok((check.outcome(), told))
 }

@@ -19,12 +19,18 @@ use Rattle.history_core.specs.declared.request.Answer.{Answer}
 use Rattle.history_core.specs.declared.request.Request.{Request}
 use Rattle.history_core.specs.declared.search.SearchFault.{SearchFault}
 use Rattle.history_core.specs.Moments.{Answered, FileLine, HasMore, MayEnd, Reaches, Sent, beginning}
-use Rattle.history_core.specs.FileView.{count_in, has_open}
+use Rattle.history_core.specs.FileView.{count_in, has_open, keeps_order}
 use Rattle.history_core.specs.FileView as one_file
 use Rattle.history_judge.specs.declared.files.Files.{Files}
 use Rattle.history_judge.specs.Entries.{Answers, Inserts, Rewrites, Sends, count_on}
 use Rattle.history_judge.specs.Kept.{kept_by}
-use Rattle.history_judge.specs.FilesView.{TellsEnd, Exceeds, Knows, KnowsFile, Refuses, Stays, Takes, file_in, kept_beside, kept_in, runs_of, with_line}
+use Rattle.history_judge.specs.FilesView.{TellsEnd, Exceeds, KeepsOn, Knows, KnowsFile, Refuses, Stays, Takes, file_in, keeps_in, kept_beside, kept_in, runs_of, with_line}
+use Rattle.std.proofs.Common.{suc}
+use Rattle.history_core.specs.declared.order.Happening.{Happening}
+use Rattle.history_core.specs.Orders as one_file_orders
+use Rattle.history_judge.specs.declared.order.FileOrder.{FileOrder}
+use Rattle.history_judge.specs.FileOrders.{AreOf, IsOrderOf, PutsOrder}
+use Rattle.history_judge.specs.Merging.{left_in}
 use Rattle.history_judge.proofs.NameLemmas.{decide, neq-eqb}
 
 -- the file has one line more
@@ -38,28 +44,39 @@ line_off lines file line g off = ap (λ b. if b then lines g ++ line ∷ [] else
 -- the file has this entry, and all else is as it was
 pub record PutsFile (old new : Files) (file : ℕ) (history : FileHistory) : Type 0 where
   pub runs : runs_of new ≡ runs_of old
+  pub keeps : keeps_in new ≡ keeps_in old
   pub here : file_in new file ≡ Some history
   pub others : (other : ℕ) → other ≢ file → file_in new other ≡ file_in old other
 
 -- what is known of each file where that of one changes
 each_put : (runs : Bool) (old new : Files) (file : ℕ) (history : FileHistory) (before after : ℕ → List FileLine) → PutsFile old new file history
-    → Knows runs old before → one_file.Knows runs history (after file) → ((g : ℕ) → g ≢ file → after g ≡ before g) → Knows runs new after
-each_put runs old new file history before after puts knows here others = record {
+    → Knows runs old before → one_file.Knows runs history (after file) → (keeps_in old ≡ true → keeps_order history ≡ true)
+    → ((g : ℕ) → g ≢ file → after g ≡ before g) → Knows runs new after
+each_put runs old new file history before after puts knows here keeps others = record {
   is_runs = puts.runs ∙ knows.is_runs;
   each = λ g. elim (decide g file) [
     | inl same ↦ subst (λ x. KnowsFile runs (file_in new x) (after x)) (sym same) (subst (λ f. KnowsFile runs f (after file)) (sym puts.here) here)
     | inr off ↦ subst (λ ls. KnowsFile runs (file_in new g) ls) (sym (others g off))
         (subst (λ f. KnowsFile runs f (before g)) (sym (puts.others g off)) (knows.each g))
   ];
+  keep = λ g. subst (λ k. KeepsOn k (file_in new g)) (sym puts.keeps) (elim (decide g file) [
+    | inl same ↦ subst (λ f. KeepsOn (keeps_in old) f) (sym (ap (file_in new) same ∙ puts.here)) keeps
+    | inr off ↦ subst (λ f. KeepsOn (keeps_in old) f) (sym (puts.others g off)) (knows.keep g)
+  ]);
 }
 
 -- what is known of a file that has this entry
-knows_entry : (runs : Bool) (files : Files) (lines : ℕ → List FileLine) (file : ℕ) (history : FileHistory) → Knows runs files lines
+pub knows_entry : (runs : Bool) (files : Files) (lines : ℕ → List FileLine) (file : ℕ) (history : FileHistory) → Knows runs files lines
     → file_in files file ≡ Some history → one_file.Knows runs history (lines file)
 knows_entry runs files lines file history knows was = subst (λ f. KnowsFile runs f (lines file)) was (knows.each file)
 
+-- an order is kept of it, where one of each is
+pub keeps_entry : (runs : Bool) (files : Files) (lines : ℕ → List FileLine) (file : ℕ) (history : FileHistory) → Knows runs files lines
+    → file_in files file ≡ Some history → keeps_in files ≡ true → keeps_order history ≡ true
+keeps_entry runs files lines file history knows was = subst (λ f. KeepsOn (keeps_in files) f) was (knows.keep file)
+
 -- nothing was read of one that has none
-knows_none : (runs : Bool) (files : Files) (lines : ℕ → List FileLine) (file : ℕ) → Knows runs files lines → file_in files file ≡ None → lines file ≡ []
+pub knows_none : (runs : Bool) (files : Files) (lines : ℕ → List FileLine) (file : ℕ) → Knows runs files lines → file_in files file ≡ None → lines file ≡ []
 knows_none runs files lines file knows none = subst (λ f. KnowsFile runs f (lines file)) none (knows.each file)
 
 -- a fresh entry knows what none does
@@ -70,32 +87,37 @@ knows_fresh runs files lines file history knows none fresh =
 
 -- the line was read at the entry
 pub takes_put : (old new : Files) (file : ℕ) (line : FileLine) (before after : FileHistory) → PutsFile old new file after → file_in old file ≡ Some before
-    → one_file.Takes before after line → Takes old new file line
-takes_put old new file line before after puts was takes runs lines knows =
+    → one_file.Takes before after line → keeps_order after ≡ keeps_order before → Takes old new file line
+takes_put old new file line before after puts was takes same runs lines knows =
     each_put runs old new file after lines (with_line lines file line) puts knows
     (subst (one_file.Knows runs after) (sym (line_here lines file line)) (takes runs (lines file) (knows_entry runs old lines file before knows was)))
+    (λ keeps. same ∙ keeps_entry runs old lines file before knows was keeps)
     (λ g off. line_off lines file line g off)
 
 -- or at a new one
 pub takes_first : (old new : Files) (file : ℕ) (line : FileLine) (before after : FileHistory) → PutsFile old new file after → file_in old file ≡ None
-    → one_file.Knows (runs_of old) before [] → one_file.Takes before after line → Takes old new file line
-takes_first old new file line before after puts none fresh takes runs lines knows =
+    → one_file.Knows (runs_of old) before [] → one_file.Takes before after line → (keeps_in old ≡ true → keeps_order after ≡ true)
+    → Takes old new file line
+takes_first old new file line before after puts none fresh takes keeps runs lines knows =
     each_put runs old new file after lines (with_line lines file line) puts knows
     (subst (one_file.Knows runs after) (sym (line_here lines file line))
-    (takes runs (lines file) (knows_fresh runs old lines file before knows none fresh)))
+    (takes runs (lines file) (knows_fresh runs old lines file before knows none fresh))) keeps
     (λ g off. line_off lines file line g off)
 
 -- none was
 pub stays_put : (old new : Files) (file : ℕ) (before after : FileHistory) → PutsFile old new file after → file_in old file ≡ Some before
-    → one_file.Stays before after → Stays old new
-stays_put old new file before after puts was stays runs lines knows =
-    each_put runs old new file after lines lines puts knows (stays runs (lines file) (knows_entry runs old lines file before knows was)) (λ g off. refl)
+    → one_file.Stays before after → keeps_order after ≡ keeps_order before → Stays old new
+stays_put old new file before after puts was stays same runs lines knows =
+    each_put runs old new file after lines lines puts knows (stays runs (lines file) (knows_entry runs old lines file before knows was))
+    (λ keeps. same ∙ keeps_entry runs old lines file before knows was keeps) (λ g off. refl)
 
 -- the same entries know the same
-pub stays_same : (old new : Files) → runs_of new ≡ runs_of old → new.files.entries ≡ old.files.entries → Stays old new
-stays_same old new is_runs same runs lines knows = record {
+pub stays_same : (old new : Files) → runs_of new ≡ runs_of old → keeps_in new ≡ keeps_in old → new.files.entries ≡ old.files.entries → Stays old new
+stays_same old new is_runs is_keeps same runs lines knows = record {
   is_runs = is_runs ∙ knows.is_runs;
   each = λ g. subst (λ f. KnowsFile runs f (lines g)) (ap (λ es. lookup (is_at (nat_cmp g)) es) (sym same)) (knows.each g);
+  keep = λ g. subst (λ k. KeepsOn k (file_in new g)) (sym is_keeps)
+      (subst (λ f. KeepsOn (keeps_in old) f) (ap (λ es. lookup (is_at (nat_cmp g)) es) (sym same)) (knows.keep g));
 }
 
 -- the line isn't possible at the entry
@@ -152,8 +174,8 @@ pub is_at-other : (n other : ℕ) → other ≢ n → is_at (nat_cmp n) other �
 is_at-other n other differs = grind (arith, common_steps)
 
 -- what was lent of an entry is written back
-pub rewrites_lent : (old new : BTreeMap ℕ FileHistory) (file : ℕ) (lent : Option (MutBor FileHistory)) (was : MutBor FileHistory) (now : FileHistory)
-    (Step : FileHistory → FileHistory → Type 0) → option_copied_mut lent ≡ get nat_cmp old file → lent ≡ Some was
+pub rewrites_lent : {X : Type 0} (old new : BTreeMap ℕ X) (file : ℕ) (lent : Option (MutBor X)) (was : MutBor X) (now : X) (Step : X → X → Type 0)
+    → option_copied_mut lent ≡ get nat_cmp old file → lent ≡ Some was
     → WritesThrough nat_cmp (nat_cmp file) old now new → Step was.now now → Rewrites old new file Step
 rewrites_lent old new file lent was now Step value is writes step =
     let there : get nat_cmp old file ≡ Some was.now = sym value ∙ ap option_copied_mut is in
@@ -170,8 +192,8 @@ rewrites_lent old new file lent was now Step value is writes step =
 
 -- an entry was written
 pub puts_rewritten : (old new : Files) (file : ℕ) (Step : FileHistory → FileHistory → Type 0) (rewrites : Rewrites old.files new.files file Step)
-    → runs_of new ≡ runs_of old → PutsFile old new file rewrites.after
-puts_rewritten old new file Step rewrites runs = record { runs = runs; here = rewrites.here; others = rewrites.others }
+    → runs_of new ≡ runs_of old → keeps_in new ≡ keeps_in old → PutsFile old new file rewrites.after
+puts_rewritten old new file Step rewrites runs keeps = record { runs = runs; keeps = keeps; here = rewrites.here; others = rewrites.others }
 
 -- an update is an insertion
 pub inserts_updated : (old new : BTreeMap ℕ FileHistory) (file : ℕ) (history : FileHistory) → UpdatesBy nat_cmp (nat_cmp file) old new (Some history)
@@ -181,8 +203,8 @@ inserts_updated old new file history updates written =
 
 -- a new entry was put in
 pub puts_inserted : (old new : Files) (file : ℕ) (history : FileHistory) → Inserts old.files new.files file history → runs_of new ≡ runs_of old
-    → PutsFile old new file history
-puts_inserted old new file history inserts runs = record { runs = runs; here = inserts.here; others = inserts.others }
+    → keeps_in new ≡ keeps_in old → PutsFile old new file history
+puts_inserted old new file history inserts runs keeps = record { runs = runs; keeps = keeps; here = inserts.here; others = inserts.others }
 
 -- of one entry no more is kept than of all
 pub count_of_one : (old : BTreeMap ℕ FileHistory) (file : ℕ) (history : FileHistory) → get nat_cmp old file ≡ Some history
@@ -233,35 +255,35 @@ not_over files limit over tells not = omega (arith, within)
     within more = false≢true (sym not ∙ tells.1 more)
 
 -- a request was sent on a file with an entry
-module _ (old new : Files) (file room count : ℕ) (request : Request) (runs : runs_of new ≡ runs_of old) where
+module _ (old new : Files) (file room count : ℕ) (request : Request) (runs : runs_of new ≡ runs_of old) (keeps : keeps_in new ≡ keeps_in old) where
   pub sent_takes : (result : Result (Unit {0}) SearchFault)
       → Rewrites old.files new.files file (λ a b. Sends a b request room result × (count ≡ count_in b)) → OnOk result (Takes old new file (Sent request))
-  sent_takes (Ok u) r = takes_put old new file (Sent request) r.before r.after (puts_rewritten old new file _ r runs) r.was r.step.0.ok
+  sent_takes (Ok u) r = takes_put old new file (Sent request) r.before r.after (puts_rewritten old new file _ r runs keeps) r.was r.step.0.ok r.step.0.keeps
   sent_takes (Err e) r = tt
 
   pub sent_stays : (result : Result (Unit {0}) SearchFault)
       → Rewrites old.files new.files file (λ a b. Sends a b request room result × (count ≡ count_in b)) → OnErr result (Stays old new)
   sent_stays (Ok u) r = tt
-  sent_stays (Err e) r = stays_put old new file r.before r.after (puts_rewritten old new file _ r runs) r.was r.step.0.err
+  sent_stays (Err e) r = stays_put old new file r.before r.after (puts_rewritten old new file _ r runs keeps) r.was r.step.0.err r.step.0.keeps
 
 -- or answered
-module _ (old new : Files) (file id room count : ℕ) (answer : Answer) (runs : runs_of new ≡ runs_of old) where
+module _ (old new : Files) (file id room count : ℕ) (answer : Answer) (runs : runs_of new ≡ runs_of old) (keeps : keeps_in new ≡ keeps_in old) where
   pub answer_takes : (result : Result Bool SearchFault)
       → Rewrites old.files new.files file (λ a b. Answers a b id answer room result × (count ≡ count_in b))
       → IfOk result (λ is_legal. is_legal ≡ true → Takes old new file (Answered id answer))
-  answer_takes (Ok l) r = λ yes. takes_put old new file (Answered id answer) r.before r.after (puts_rewritten old new file _ r runs) r.was (r.step.0.legal yes)
+  answer_takes (Ok l) r = λ yes. takes_put old new file (Answered id answer) r.before r.after (puts_rewritten old new file _ r runs keeps) r.was (r.step.0.legal yes) r.step.0.keeps
   answer_takes (Err e) r = tt
 
   pub answer_keeps : (result : Result Bool SearchFault)
       → Rewrites old.files new.files file (λ a b. Answers a b id answer room result × (count ≡ count_in b))
       → IfOk result (λ is_legal. is_legal ≡ false → Stays old new)
-  answer_keeps (Ok l) r = λ no. stays_put old new file r.before r.after (puts_rewritten old new file _ r runs) r.was (r.step.0.stays no)
+  answer_keeps (Ok l) r = λ no. stays_put old new file r.before r.after (puts_rewritten old new file _ r runs keeps) r.was (r.step.0.stays no) r.step.0.keeps
   answer_keeps (Err e) r = tt
 
   pub answer_stays : (result : Result Bool SearchFault)
       → Rewrites old.files new.files file (λ a b. Answers a b id answer room result × (count ≡ count_in b)) → OnErr result (Stays old new)
   answer_stays (Ok l) r = tt
-  answer_stays (Err e) r = stays_put old new file r.before r.after (puts_rewritten old new file _ r runs) r.was r.step.0.err
+  answer_stays (Err e) r = stays_put old new file r.before r.after (puts_rewritten old new file _ r runs keeps) r.was r.step.0.err r.step.0.keeps
 
 -- or refused
 pub answer_refuses : (old : Files) (after : BTreeMap ℕ FileHistory) (file id room count : ℕ) (answer : Answer) (result : Result Bool SearchFault)
@@ -326,3 +348,77 @@ pub entry_in_loop : (files : Files) (xs : List (Bor ℕ × Bor FileHistory)) (s 
     (x : Bor ℕ × Bor FileHistory) → s ≡ files.files.entries → Yields (TakesFirst deref_pair) s xs t → r ≡ Some x → TakesFirst deref_pair t r u
     → IsOrdered nat_cmp files.files → file_in files x.0.now ≡ Some x.1.now
 entry_in_loop files xs s t u r x start y is step ordered = (btree_map_turn deref_pair xs s t u r x y is step nat_cmp_total files.files start ordered).1
+
+-- the order of a file, where one is kept
+pub order_put : (history : FileHistory) (order : List Happening) (put : FileOrder) → left_in put ≡ record { told = order; lines = 0 }
+    → ((runs : Bool) (lines : List FileLine) → one_file.Knows runs history lines → one_file_orders.IsOrder runs lines order) → IsOrderOf history put
+order_put history order put is told = record {
+  none_came = ap (λ l. l.lines) is;
+  is_order = λ runs lines knows. subst (λ t. one_file_orders.IsOrder runs lines t) (sym (ap (λ l. l.told) is)) (told runs lines knows);
+}
+
+-- it was put in
+pub puts_order : (old new : BTreeMap ℕ FileOrder) (file : ℕ) (history : FileHistory) (order : FileOrder) → UpdatesBy nat_cmp (nat_cmp file) old new (Some order)
+    → IsOrderOf history order → PutsOrder old new file history
+puts_order old new file history order updates is = record {
+  puts = λ keeps none. absurd (some_none (sym updates.1 ∙ none));
+  stays = λ was none. absurd (some_none (sym updates.1 ∙ none));
+  only = λ other here. inr (subst (λ o. IsOrderOf history o) (same other (sym updates.1 ∙ here)) is);
+  others = λ other differs. updates.2 other (is_at-other file other differs);
+}
+  where
+    some_none : Some order ≡ None → ⊥
+    some_none e = absurd (grind (arith, common_steps, e))
+
+    same : (other : FileOrder) → Some order ≡ Some other → order ≡ other
+    same other e = cc
+
+-- none was
+pub puts_none : (old : BTreeMap ℕ FileOrder) (file : ℕ) (history : FileHistory) → keeps_order history ≡ false → PutsOrder old old file history
+puts_none old file history kept = record {
+  puts = λ keeps none. absurd (false≢true (sym kept ∙ keeps));
+  stays = λ was. was;
+  only = λ other here. inl here;
+  others = λ other differs. refl;
+}
+
+-- each is the order of a file, with one more
+pub are_more : (files : BTreeMap ℕ FileHistory) (old new : BTreeMap ℕ FileOrder) (file : ℕ) (history : FileHistory) → get nat_cmp files file ≡ Some history
+    → PutsOrder old new file history → AreOf files old → AreOf files new
+are_more files old new file history here puts are g order is = elim (decide g file) [
+  | inl same ↦ elim (puts.only order (subst (λ x. get nat_cmp new x ≡ Some order) same is)) [
+    | inl was ↦ are g order (subst (λ x. get nat_cmp old x ≡ Some order) (sym same) was)
+    | inr fresh ↦ (history, subst (λ x. get nat_cmp files x ≡ Some history) (sym same) here, fresh)
+  ]
+  | inr off ↦ are g order (sym (puts.others g off) ∙ is)
+]
+
+-- what is there stays
+pub still_there : (old new : BTreeMap ℕ FileOrder) (file : ℕ) (history : FileHistory) → PutsOrder old new file history → (g : ℕ) → get nat_cmp old g ≢ None
+    → get nat_cmp new g ≢ None
+still_there old new file history puts g was = elim (decide g file) [
+  | inl same ↦ subst (λ x. get nat_cmp new x ≢ None) (sym same) (puts.stays (subst (λ x. get nat_cmp old x ≢ None) same was))
+  | inr off ↦ λ none. was (sym (puts.others g off) ∙ none)
+]
+
+is_at-same : (n other : ℕ) → other ≡ n → is_at (nat_cmp n) other ≡ true
+is_at-same n other same = grind (arith, common_steps)
+
+-- each file has its own
+pub all_there : (files : BTreeMap ℕ FileHistory) (orders : BTreeMap ℕ FileOrder)
+    → All (λ (e : ℕ × FileHistory). keeps_order e.1 ≡ true → get nat_cmp orders e.0 ≢ None) files.entries → (file : ℕ) (history : FileHistory)
+    → get nat_cmp files file ≡ Some history → keeps_order history ≡ true → get nat_cmp orders file ≢ None
+all_there files orders all file history is keeps = found files.entries all is
+  where
+    found : (es : List (ℕ × FileHistory)) → All (λ (e : ℕ × FileHistory). keeps_order e.1 ≡ true → get nat_cmp orders e.0 ≢ None) es
+        → lookup (is_at (nat_cmp file)) es ≡ Some history → get nat_cmp orders file ≢ None
+    found [] all is = absurd (let e : ⊥ = cc in e)
+    found (e ∷ es) all is = elim (decide e.0 file) [
+      | inl same ↦
+          let at : is_at (nat_cmp file) e.0 ≡ true = is_at-same file e.0 same in
+          let here : e.1 ≡ history = grind (arith, common_steps, at, is) in
+          subst (λ x. get nat_cmp orders x ≢ None) same (all 0 e (omega arith) (ap keeps_order here ∙ keeps))
+      | inr off ↦
+          let at : is_at (nat_cmp file) e.0 ≡ false = is_at-other file e.0 off in
+          found es (λ k d lt. all (suc k) d (omega (arith, lt))) (grind (arith, common_steps, at, is))
+    ]

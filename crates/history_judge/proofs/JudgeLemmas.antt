@@ -9,7 +9,7 @@ use Rattle.std.specs.BTreeMap.{BTreeMap, UpdatesBy, get, is_at}
 use Rattle.std.specs.Map.{lookup}
 use Rattle.std.specs.List.{list_any}
 use Rattle.std.specs.Ordering.{nat_cmp}
-use Rattle.std.specs.Prelude.{Err, IfOk, IsErrAnd, IsTrue, Ok, Result, option_map, if◌then◌else◌}
+use Rattle.std.specs.Prelude.{Err, fold, IfOk, IsErrAnd, IsTrue, Ok, Result, option_map, if◌then◌else◌}
 use Rattle.history_core.specs.declared.request.Request.{Request}
 use Rattle.history_core.specs.declared.request.Answer.{Answer}
 use Rattle.history_core.specs.declared.file.FileHistory.{FileHistory}
@@ -21,15 +21,16 @@ use Rattle.history_judge.specs.declared.files.Files.{Files}
 use Rattle.history_judge.specs.declared.judge.HistoryJudge.{HistoryJudge}
 use Rattle.history_judge.specs.declared.judge.OpenRequest.{OpenRequest}
 use Rattle.history_judge.specs.Entries.{IsFreeOn}
+use Rattle.history_judge.specs.Merging.{file_of, file_sent, files_from, files_of}
 use Rattle.history_judge.specs.FilesApart.{AreNamed, IsNamed, Sending, is_on, lines_of, none_open, open_after, open_behind}
-use Rattle.history_judge.specs.FilesView.{TellsEnd, KnowsFile, file_in, runs_of, with_line}
+use Rattle.history_judge.specs.FilesView.{KeepsOn, TellsEnd, KnowsFile, file_in, keeps_in, runs_of, with_line}
 use Rattle.history_judge.specs.FilesView as all_files
 use Rattle.history_judge.specs.Histories.{Answered, HistoryLine, IsIllegalAt, IsLegal, MayEnd, Sent, beginnings}
 use Rattle.history_core.specs.declared.search.SearchFault.{SearchFault}
 use Rattle.history_core.specs.declared.search.SearchFault.TheVariants as searches
 use Rattle.history_judge.specs.declared.fault.JudgeFault.{JudgeFault}
 use Rattle.history_judge.specs.declared.fault.JudgeFault.TheVariants as faults
-use Rattle.history_judge.specs.JudgeView.{Exceeds, Knows, judge_fault_of}
+use Rattle.history_judge.specs.JudgeView.{Exceeds, Knows, judge_fault_of, keeps_order}
 use Rattle.history_judge.specs.Known.{AreKnown, IsHistory, PutsRequest, sending_of}
 use Rattle.history_judge.proofs.NameLemmas.{decide, neq-eqb}
 use Rattle.history_judge.proofs.ApartLemmas.{Apart, Home, apart, home_answered, home_sent, named-append, opens-append}
@@ -206,14 +207,14 @@ pub known_first : (runs : Bool) (files : Files) (opened : BTreeMap ℕ OpenReque
 known_first runs files opened is_runs none free = record {
   legal = (beginnings, record { moments = []; in_order = refl; leads = λ g. refl });
   opens = λ id. ap (option_map sending_of) (free id);
-  files_known = record { is_runs = is_runs; each = λ g. subst (λ f. KnowsFile runs f []) (sym (none g)) refl };
+  files_known = record { is_runs = is_runs; each = λ g. subst (λ f. KnowsFile runs f []) (sym (none g)) refl; keep = λ g. subst (λ f. KeepsOn (keeps_in files) f) (sym (none g)) tt };
 }
 
 -- the limit
 pub exceeds_there : (judge : HistoryJudge) (limit : ℕ) → all_files.Exceeds judge.files limit → Exceeds judge limit
 exceeds_there judge limit exceeds = elim exceeds [
   | inl over ↦ inl over
-  | inr more ↦ inr (more.0, λ runs lines known. more.1 runs (λ g. lines_of g lines) known.files_known)
+  | inr more ↦ inr (more.0, λ runs lines knows. more.1 runs (λ g. lines_of g lines) knows.known.files_known)
 ]
 
 -- the end
@@ -227,7 +228,7 @@ ends_there runs files opened may_end lines ends known =
 
 pub ends_told : (judge : HistoryJudge) (result : Result Bool SearchFault) → IfOk result (λ may_end. TellsEnd judge.files may_end)
     → IfOk result (λ may_end. (runs : Bool) (lines : List HistoryLine) → Knows runs judge lines → IsTrue may_end ↔ MayEnd runs lines)
-ends_told judge (Ok may_end) ends = λ runs lines known. ends_there runs judge.files judge.opened may_end lines ends known
+ends_told judge (Ok may_end) ends = λ runs lines knows. ends_there runs judge.files judge.opened may_end lines ends knows.known
 ends_told judge (Err fault) ends = tt
 
 -- an update of the open requests
@@ -280,3 +281,32 @@ never_told result fault other differs is told = differs (let same = sym is ∙ t
 -- and is the limit where that is told
 pub limit_of : (result : Result (Unit {0}) JudgeFault) (fault : SearchFault) → result ≡ Err (judge_fault_of fault) → result ≡ Err faults.Limit → fault ≡ searches.Limit
 limit_of result fault is told = limit_told fault (let same = sym is ∙ told in cc)
+
+-- the file of one line more
+files_more_from : (opens : ℕ → Option Sending) (lines : List HistoryLine) (line : HistoryLine)
+    → files_from opens (lines ++ line ∷ []) ≡ files_from opens lines ++ file_of (fold open_behind opens lines) line ∷ []
+files_more_from opens [] line = refl
+files_more_from opens (first ∷ lines) line = ap (λ fs. file_of opens first ∷ fs) (files_more_from (open_behind opens first) lines line)
+
+-- where no line is read, the files of those that were are kept
+pub logged_still : (runs : Bool) (old new : HistoryJudge) (lines : List HistoryLine) → new.line_files.items ≡ old.line_files.items
+    → keeps_order new ≡ keeps_order old → Knows runs old lines → AreKnown runs new.files new.opened lines → Knows runs new lines
+logged_still runs old new lines same keeps knows known =
+    record { known = known; logged = λ yes. same ∙ knows.logged (sym keeps ∙ yes) }
+
+-- where one is, so is its own
+pub logged_more : (runs : Bool) (old new : HistoryJudge) (lines : List HistoryLine) (line : HistoryLine) (file : ℕ) (room : List ℕ)
+    → file_of (open_after lines) line ≡ file → room ≡ old.line_files.items → (keeps_order old ≡ true → new.line_files.items ≡ room ++ file ∷ [])
+    → keeps_order new ≡ keeps_order old → Knows runs old lines → AreKnown runs new.files new.opened (lines ++ line ∷ []) → Knows runs new (lines ++ line ∷ [])
+logged_more runs old new lines line file room is_file same logs keeps knows known = record {
+  known = known;
+  logged = λ yes.
+      let was : keeps_order old ≡ true = sym keeps ∙ yes in
+      logs was ∙ ap (λ fs. fs ++ file ∷ []) (same ∙ knows.logged was) ∙ ap (λ f. files_of lines ++ f ∷ []) (sym is_file)
+      ∙ sym (files_more_from none_open lines line);
+}
+
+-- the file of an answer is that of its request
+pub file_answered : (runs : Bool) (judge : HistoryJudge) (lines : List HistoryLine) (id : ℕ) (sent : OpenRequest) (answer : Answer)
+    → get nat_cmp judge.opened id ≡ Some sent → Knows runs judge lines → file_of (open_after lines) (Answered id answer) ≡ sent.file
+file_answered runs judge lines id sent answer is knows = ap file_sent (open_there runs judge.files judge.opened lines id sent is knows.known)

@@ -14,7 +14,7 @@ use Rattle.history_judge.proofs.NameLemmas.{Named, decide, has_free, neq-eqb}
 use Rattle.history_judge.proofs.ApartLemmas.{Apart, Home, apart, home_answered, home_sent, lines-from-append, named-parts}
 
 -- worlds that are the same on each file are the same
-same_worlds : (a b : ℕ → World) → ((g : ℕ) → a g ≡ b g) → a ≡ b
+pub same_worlds : (a b : ℕ → World) → ((g : ℕ) → a g ≡ b g) → a ≡ b
 same_worlds a b same = λ i. λ g. same g i
 
 -- what holds of no line, and of one line more, holds of all
@@ -26,13 +26,13 @@ snoc {X = X} P none more ys = go [] none ys
     go xs front (y ∷ ys) = subst P (append_assoc xs (y ∷ []) ys) (go (xs ++ y ∷ []) (more xs y front) ys)
 
 -- the worlds, but this one on the file
-abbrev with_world : (ℕ → World) → ℕ → World → ℕ → World
+abbrev pub with_world : (ℕ → World) → ℕ → World → ℕ → World
 with_world worlds f world g = if g == f then world else worlds g
 
-world_here : (worlds : ℕ → World) (f : ℕ) (world : World) → with_world worlds f world f ≡ world
+pub world_here : (worlds : ℕ → World) (f : ℕ) (world : World) → with_world worlds f world f ≡ world
 world_here worlds f world = ap (λ b. if b then world else worlds f) (eq-eqb f f refl)
 
-world_off : (worlds : ℕ → World) (f : ℕ) (world : World) (g : ℕ) → g ≢ f → with_world worlds f world g ≡ worlds g
+pub world_off : (worlds : ℕ → World) (f : ℕ) (world : World) (g : ℕ) → g ≢ f → with_world worlds f world g ≡ worlds g
 world_off worlds f world g off = ap (λ b. if b then world else worlds g) (neq-eqb g f off)
 
 leads-append : (runs : Bool) (a : ℕ → World) (first : List Moment) (b : ℕ → World) (moments : List Moment) (c : ℕ → World) → Leads runs a first b
@@ -40,7 +40,7 @@ leads-append : (runs : Bool) (a : ℕ → World) (first : List Moment) (b : ℕ 
 leads-append runs a [] b moments c same leads = subst (λ w. Leads runs w moments c) (same_worlds b a same) leads
 leads-append runs a (m ∷ ms) b moments c leads rest = (leads.0, leads.1, leads-append runs leads.0 ms b moments c leads.2 rest)
 
-lines-append : (first moments : List Moment) → lines_among (first ++ moments) ≡ lines_among first ++ lines_among moments
+pub lines-append : (first moments : List Moment) → lines_among (first ++ moments) ≡ lines_among first ++ lines_among moments
 lines-append [] moments = refl
 lines-append (m ∷ ms) moments =
     ap (λ ls. lines_at m.file m.what ++ ls) (lines-append ms moments) ∙ sym (append_assoc (lines_at m.file m.what) (lines_among ms) (lines_among moments))
@@ -91,7 +91,7 @@ home_of opens (Answered id answer) named = go (opens id) refl
     go (Some s) is = home_answered opens s.file id answer s is refl
 
 -- and a request that is sent is new
-new_of : (opens : ℕ → Option Sending) (worlds : ℕ → World) (f : ℕ) (line : FileLine) → Named opens worlds → IsNamed opens (line_of f line)
+pub new_of : (opens : ℕ → Option Sending) (worlds : ℕ → World) (f : ℕ) (line : FileLine) → Named opens worlds → IsNamed opens (line_of f line)
     → IsNew worlds (one_file.Line line)
 new_of opens worlds f (one_file.Sent request) named is = λ g. has_free (worlds g) request.id (named g request.id ∙ ap (λ s. is_on s g) is)
 new_of opens worlds f (one_file.Answered id answer) named is = tt

@@ -8,7 +8,7 @@ use Rattle.history_core.specs.declared.request.Answer.{Answer}
 use Rattle.history_core.specs.declared.request.Request.{Request}
 use Rattle.history_core.specs.declared.search.SearchFault.{SearchFault}
 use Rattle.history_core.specs.declared.search.SearchFault.TheVariants.{Limit}
-use Rattle.history_core.specs.FileView.{Exceeds, Refuses, Stays, Takes, count_in, has_open}
+use Rattle.history_core.specs.FileView.{Exceeds, Refuses, Stays, Takes, count_in, has_open, keeps_order}
 use Rattle.history_core.specs.Moments.{Answered, Sent}
 
 -- how many are kept of the file
@@ -26,6 +26,7 @@ pub record Sends (old new : FileHistory) (request : Request) (limit : ℕ) (resu
   pub ok : OnOk result (Takes old new (Sent request))
   pub full : result ≡ Err Limit → Exceeds old limit
   pub err : OnErr result (Stays old new)
+  pub keeps : keeps_order new ≡ keeps_order old
 
 -- what the answer on the file tells
 pub record Answers (old new : FileHistory) (id : ℕ) (answer : Answer) (limit : ℕ) (result : Result Bool SearchFault) : Type 0 where
@@ -34,11 +35,12 @@ pub record Answers (old new : FileHistory) (id : ℕ) (answer : Answer) (limit :
   pub stays : IfOk result (λ is_legal. is_legal ≡ false → Stays old new)
   pub full : result ≡ Err Limit → Exceeds old limit
   pub err : OnErr result (Stays old new)
+  pub keeps : keeps_order new ≡ keeps_order old
 
 -- such a step was made at the entry of the file, and at no other
-pub record Rewrites (old new : BTreeMap ℕ FileHistory) (file : ℕ) (Step : FileHistory → FileHistory → Type 0) : Type 0 where
-  pub before : FileHistory
-  pub after : FileHistory
+pub record Rewrites {X : Type 0} (old new : BTreeMap ℕ X) (file : ℕ) (Step : X → X → Type 0) : Type 0 where
+  pub before : X
+  pub after : X
   pub was : get nat_cmp old file ≡ Some before
   pub here : get nat_cmp new file ≡ Some after
   pub others : (other : ℕ) → other ≢ file → get nat_cmp new other ≡ get nat_cmp old other

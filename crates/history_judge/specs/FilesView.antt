@@ -1,5 +1,5 @@
 -- What is known of all files of a history, one by one.
-use Rattle.std.specs.Prelude.{◌≡◌, ℕ, ◌-◌, ◌<◌, ◌==◌, ◌↔◌, ◌⊎◌, Bool, IsTrue, if◌then◌else◌, Option, Some, None, List, [], ◌∷◌, ◌++◌}
+use Rattle.std.specs.Prelude.{◌≡◌, ℕ, ◌-◌, ◌<◌, ◌==◌, ◌↔◌, ◌⊎◌, Bool, true, IfSome, IsTrue, if◌then◌else◌, Option, Some, None, List, [], ◌∷◌, ◌++◌}
 use Rattle.std.specs.BTreeMap.{get}
 use Rattle.std.specs.Ordering.{nat_cmp}
 use Rattle.history_core.specs.declared.file.FileHistory.{FileHistory}
@@ -17,6 +17,10 @@ file_in files file = get nat_cmp files.files file
 abbrev pub runs_of : Files → Bool
 runs_of files = files.runs
 
+-- whether an order of each file is kept
+abbrev pub keeps_in : Files → Bool
+keeps_in files = files.keeps
+
 -- how many are kept, of all files together
 abbrev pub kept_in : Files → ℕ
 kept_in files = kept_by files.files
@@ -30,10 +34,15 @@ abbrev pub KnowsFile : Bool → Option FileHistory → List FileLine → Type 0
 KnowsFile runs None lines = lines ≡ []
 KnowsFile runs (Some history) lines = one_file.Knows runs history lines
 
+-- an order of the file is kept, where one of each is to be
+abbrev pub KeepsOn : Bool → Option FileHistory → Type 0
+KeepsOn keeps entry = IfSome entry (λ history. keeps ≡ true → one_file.keeps_order history ≡ true)
+
 -- just these lines were read of each file
 pub record Knows (runs : Bool) (files : Files) (lines : ℕ → List FileLine) : Type 0 where
   pub is_runs : runs_of files ≡ runs
   pub each : (file : ℕ) → KnowsFile runs (file_in files file) (lines file)
+  pub keep : (file : ℕ) → KeepsOn (keeps_in files) (file_in files file)
 
 -- the lines of each file with one more of this file
 abbrev pub with_line : (ℕ → List FileLine) → ℕ → FileLine → ℕ → List FileLine

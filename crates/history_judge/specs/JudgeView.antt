@@ -1,5 +1,5 @@
 -- What is known of a whole history.
-use Rattle.std.specs.Prelude.{◌≡◌, ◌≢◌, ℕ, ◌-◌, ◌<◌, ◌⊎◌, Bool, Option, None, List, [], ◌∷◌, ◌++◌}
+use Rattle.std.specs.Prelude.{◌≡◌, ◌≢◌, ℕ, ◌-◌, ◌<◌, ◌⊎◌, Bool, true, Option, None, List, [], ◌∷◌, ◌++◌}
 use Rattle.std.specs.BTreeMap.{get}
 use Rattle.std.specs.Ordering.{nat_cmp}
 use Rattle.history_core.specs.Moments.{HasMore}
@@ -12,6 +12,7 @@ use Rattle.history_judge.specs.declared.judge.HistoryJudge.{HistoryJudge}
 use Rattle.history_judge.specs.declared.judge.OpenRequest.{OpenRequest}
 use Rattle.history_judge.specs.Histories.{HistoryLine, IsIllegalAt}
 use Rattle.history_judge.specs.FilesApart.{lines_of}
+use Rattle.history_judge.specs.Merging.{files_of}
 use Rattle.history_judge.specs.Known.{AreKnown, PutsRequest}
 use Rattle.history_judge.specs.FilesView as all_files
 
@@ -27,9 +28,14 @@ kept_in judge = all_files.kept_in judge.files
 abbrev pub kept_beside : HistoryJudge → ℕ → ℕ
 kept_beside judge file = all_files.kept_beside judge.files file
 
--- just these lines were read, and they are legal
-abbrev pub Knows : Bool → HistoryJudge → List HistoryLine → Type 0
-Knows runs judge lines = AreKnown runs judge.files judge.opened lines
+-- whether an order of effects is kept
+abbrev pub keeps_order : HistoryJudge → Bool
+keeps_order judge = all_files.keeps_in judge.files
+
+-- just these lines were read, and they are legal; where an order is kept, so is the file of each
+pub record Knows (runs : Bool) (judge : HistoryJudge) (lines : List HistoryLine) : Type 0 where
+  pub known : AreKnown runs judge.files judge.opened lines
+  pub logged : keeps_order judge ≡ true → judge.line_files.items ≡ files_of lines
 
 -- the line was read
 abbrev pub Takes : HistoryJudge → HistoryJudge → HistoryLine → Type 0

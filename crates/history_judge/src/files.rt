@@ -5,7 +5,9 @@ ghost use Rattle.std.specs.Ordering.{nat_cmp};
 ghost use Rattle.history_core.specs.FileView.{count_in};
 ghost use Rattle.history_judge.specs.Kept.{kept_by};
 ghost use Rattle.history_judge.specs.Entries.{Answers, Inserts, IsFreeOn, Rewrites, Sends};
+ghost use Rattle.history_judge.specs.FileOrders.{PutsOrder};
 
+use crate::order::{FileHappening, FileOrder, merged};
 use history_core::{Answer, FileHistory, Request, SearchFault};
 use range_core::Memory;
 use std::alloc::Global;
@@ -17,6 +19,8 @@ pub struct Files {
     alloc: Global,
     /// Whether a get tells largest ranges alone.
     runs: bool,
+    /// Whether an order of each file's effects is kept.
+    keeps: bool,
     /// By number.
     files: BTreeMap<u64, FileHistory>,
     /// How many possibilities they keep together.
@@ -25,20 +29,25 @@ pub struct Files {
 }
 
 impl Files {
-    ghost use Rattle.std.specs.Prelude.{◌<◌, ◌≤◌, ◌↔◌, ℕ, IfOk, IsTrue, true, false};
+    ghost use Rattle.std.specs.Prelude.{◌<◌, ◌≤◌, ◌↔◌, ℕ, [], IfOk, IsTrue, true, false};
     ghost use Rattle.history_core.specs.declared.search.SearchFault.{SearchFault};
     ghost use Rattle.history_core.specs.Moments.{Answered, Sent};
-    ghost use Rattle.history_judge.specs.FilesView.{TellsEnd, Exceeds, Refuses, Stays, Takes, file_in, kept_beside as kept_beside_of, kept_in, runs_of};
+    ghost use Rattle.history_judge.specs.FilesView.{TellsEnd, Exceeds, Refuses, Stays, Takes, file_in, keeps_in, kept_beside as kept_beside_of, kept_in, runs_of};
+    ghost use Rattle.history_core.specs.FileView.{Knows as KnowsFile, keeps_order as keeps_order_of};
+    ghost use Rattle.history_judge.specs.FileOrders.{AreMerged, AreOrders};
 
-    /// Nothing was sent. With `runs` a get tells largest ranges of one mode alone. It takes no memory.
-    pub fn new(alloc: Global, runs: bool) -> Files
+    /// Nothing was sent. With `runs` a get tells largest ranges of one mode alone, with `keeps` an order of each file's effects is kept. It
+    /// takes no memory.
+    pub fn new(alloc: Global, runs: bool, keeps: bool) -> Files
         ensures none { (file : ℕ) → file_in result file ≡ None }
         ensures runs { runs_of result ≡ runs }
+        ensures keeps { keeps_in result ≡ keeps }
         ensures kept { kept_in result ≡ 0 }
     {
         Files {
             alloc,
             runs,
+            keeps,
             files: BTreeMap::new(alloc),
             kept: 0,
         }
@@ -51,6 +60,13 @@ impl Files {
         self.kept
     }
 
+    /// Whether an order of each file's effects is kept.
+    pub fn keeps_order(&self) -> bool
+        ensures { result ≡ keeps_in self.now }
+    {
+        self.keeps
+    }
+
     /// Reads a `>` on the file, on which no open request has the ID.
     ///
     /// Each fault reads no line. `Limit` where more possibilities than the limit are kept, or would be.
@@ -61,6 +77,7 @@ impl Files {
         ensures limit { result ≡ Err SearchFault.Limit → Exceeds self.old limit }
         ensures err { OnErr result (Stays self.old self.new) }
         ensures runs { runs_of self.new ≡ runs_of self.old }
+        ensures keeps { keeps_in self.new ≡ keeps_in self.old }
     {
         if self.is_over(limit) {
             return Err(SearchFault::Limit);
@@ -90,6 +107,7 @@ impl Files {
         ensures limit { result ≡ Err SearchFault.Limit → Exceeds self.old limit }
         ensures err { OnErr result (Stays self.old self.new) }
         ensures runs { runs_of self.new ≡ runs_of self.old }
+        ensures keeps { keeps_in self.new ≡ keeps_in self.old }
     {
         if self.is_over(limit) {
             return Err(SearchFault::Limit);
@@ -121,6 +139,37 @@ impl Files {
         Ok(true)
     }
 
+    /// The orders of all files, merged to one of lines that are of these files.
+    pub fn order(&self, line_files: &[u64]) -> Result<Vec<FileHappening>, Memory>
+        ensures { IfOk result (λ told. AreMerged self.now.files line_files.now told.items) }
+    {
+        let orders = self.orders()?;
+        merged(self.alloc, orders, line_files)
+    }
+
+    /// The order of each file of which one is kept.
+    fn orders(&self) -> Result<BTreeMap<u64, FileOrder>, Memory>
+        ensures { IfOk result (λ orders. AreOrders self.now.files orders) }
+    {
+        let mut orders = BTreeMap::new(self.alloc);
+        for (file, history) in &self.files {
+            put_order(&mut orders, *file, history)?;
+        }
+        Ok(orders)
+    }
+
+    /// What is known of a file on which nothing was sent.
+    fn fresh(&self) -> Result<FileHistory, Memory>
+        ensures knows { IfOk result (λ history. KnowsFile (runs_of self.now) history []) }
+        ensures keeps { IfOk result (λ history. keeps_in self.now ≡ true → keeps_order_of history ≡ true) }
+    {
+        if self.keeps {
+            FileHistory::keeping_order(self.alloc, self.runs)
+        } else {
+            FileHistory::new(self.alloc, self.runs)
+        }
+    }
+
     /// Reads the first `>` on the file.
     fn send_first(&mut self, file: u64, request: Request, limit: usize) -> Result<(), SearchFault>
         requires free { file_in self.old file ≡ None }
@@ -129,12 +178,13 @@ impl Files {
         ensures limit { result ≡ Err SearchFault.Limit → Exceeds self.old limit }
         ensures err { OnErr result (Stays self.old self.new) }
         ensures runs { runs_of self.new ≡ runs_of self.old }
+        ensures keeps { keeps_in self.new ≡ keeps_in self.old }
     {
         let room = room_beside(self.kept, limit);
         if room == 0 {
             return Err(SearchFault::Limit);
         }
-        let mut history = FileHistory::new(self.alloc, self.runs)?;
+        let mut history = self.fresh()?;
         history.send(request, room)?;
         let kept = self.kept + history.count() as u128;
         put_file(&mut self.files, file, history)?;
@@ -151,6 +201,7 @@ impl Files {
         ensures limit { result ≡ Err SearchFault.Limit → Exceeds self.old limit }
         ensures err { OnErr result (Stays self.old self.new) }
         ensures runs { runs_of self.new ≡ runs_of self.old }
+        ensures keeps { keeps_in self.new ≡ keeps_in self.old }
     {
         let elsewhere = self.kept_beside(file);
         let room = room_beside(elsewhere, limit);
@@ -220,6 +271,20 @@ fn put_file(
     ensures err { OnErr result (files.new.entries ≡ files.old.entries) }
 {
     files.insert(file, history)?;
+    Ok(())
+}
+
+/// The file has its order, where one is kept.
+fn put_order(
+    orders: &mut BTreeMap<u64, FileOrder>,
+    file: u64,
+    history: &FileHistory,
+) -> Result<(), Memory>
+    ensures { OnOk result (PutsOrder orders.old orders.new file history.now) }
+{
+    if let Some(order) = history.order()? {
+        orders.insert(file, FileOrder::new(order))?;
+    }
     Ok(())
 }
 

@@ -3,3 +3,4 @@ mod faults;
 mod files;
 mod large;
 mod lines;
+mod orders;

@@ -7,7 +7,7 @@ use Rattle.history_core.specs.declared.search.SearchFault.TheVariants as searche
 use Rattle.history_check.specs.declared.check.HistoryCheck.{HistoryCheck}
 use Rattle.history_check.specs.declared.judging.Judging.{Judging}
 use Rattle.history_check.specs.Checked.{HasChecked, HasJudged, IsLimited, lines_in, verdict_in}
-use Rattle.history_check.specs.Verdicts.{AreJudged, history_limit}
+use Rattle.history_check.specs.Verdicts.{AreJudged, IsSound, history_limit}
 use Rattle.history_run.specs.declared.runs.HistoryFault.{HistoryFault}
 use Rattle.history_run.specs.declared.runs.HistoryFault.TheVariants as faults
 use Rattle.history_run.specs.HistoryRuns.{Exceeds, IsEndFault, IsRead, IsReadFault, IsReadTo, fault_of}
@@ -48,13 +48,14 @@ short judging old new check left so_far = omega (arith, so_far.count)
 -- what was read decides
 pub decided_read : (judging : Judging) (old new : Option (List ℕ)) (check : HistoryCheck) (left : ℕ) → IsReadTo judging old new check left
     → ((bytes : List ℕ) → length bytes ≤ history_limit → HasChecked judging check bytes → AreJudged judging bytes (verdict_in check))
-    → IsRead judging old new check
-decided_read judging old new check left so_far decides = record {
+    → IsSound judging (verdict_in check) → IsRead judging old new check
+decided_read judging old new check left so_far decides sound = record {
   judged = record {
     input = so_far.input;
     consumed = so_far.consumed;
     judged = inr (decides so_far.input (short judging old new check left so_far) so_far.checked);
   };
+  sound = sound;
   few = omega (arith, so_far.few, so_far.count);
 }
 
@@ -62,14 +63,16 @@ decided_read judging old new check left so_far decides = record {
 pub whole_read : (judging : Judging) (old mid new : Option (List ℕ)) (check last : HistoryCheck) (left : ℕ) → IsReadTo judging old mid check left
     → Consumes mid new [] → IsAtEnd new
     → ((bytes : List ℕ) → length bytes ≤ history_limit → HasChecked judging check bytes → HasJudged judging last bytes)
-    → lines_in last ≤ history_limit + 1 → IsRead judging old new last
-whole_read judging old mid new check last left so_far consumed at_end judged few =
+    → lines_in last ≤ history_limit + 1
+    → ((bytes : List ℕ) → HasChecked judging check bytes → IsSound judging (verdict_in last)) → IsRead judging old new last
+whole_read judging old mid new check last left so_far consumed at_end judged few sound =
     let all = more_read judging old mid new check check left left [] so_far consumed (omega arith) (still_checked judging check) (omega arith) in record {
       judged = record {
         input = all.input;
         consumed = all.consumed;
         judged = inl (at_end, judged all.input (short judging old new check left all) all.checked);
       };
+      sound = sound so_far.input so_far.checked;
       few = few;
     }
 
@@ -77,13 +80,14 @@ whole_read judging old mid new check last left so_far consumed at_end judged few
 pub past_read : (judging : Judging) (old mid new : Option (List ℕ)) (check last : HistoryCheck) (byte : ℕ) → IsReadTo judging old mid check 0
     → Consumes mid new (byte ∷ [])
     → ((bytes : List ℕ) (byte : ℕ) → length bytes ≡ history_limit → HasChecked judging check bytes → AreJudged judging (bytes ++ byte ∷ []) (verdict_in last))
-    → lines_in last ≡ lines_in check → IsRead judging old new last
-past_read judging old mid new check last byte so_far consumed cut few = record {
+    → lines_in last ≡ lines_in check → IsSound judging (verdict_in last) → IsRead judging old new last
+past_read judging old mid new check last byte so_far consumed cut few sound = record {
   judged = record {
     input = so_far.input ++ byte ∷ [];
     consumed = Consumes-trans old mid new so_far.input (byte ∷ []) so_far.consumed consumed;
     judged = inr (cut so_far.input byte (omega (arith, so_far.count)) so_far.checked);
   };
+  sound = sound;
   few = omega (arith, few, so_far.few, so_far.count);
 }
 
@@ -140,10 +144,12 @@ pub whole_where : (result : Result HistoryCheck HistoryFault) (judging : Judging
     → IsReadTo judging old mid check left → Consumes mid new [] → IsAtEnd new
     → ((bytes : List ℕ) → length bytes ≤ history_limit → HasChecked judging check bytes
     → MatchResult result (λ last. HasJudged judging last bytes) (IsEndFault judging bytes))
-    → IfOk result (λ last. lines_in last ≤ history_limit + 1) → IfOk result (IsRead judging old new)
-whole_where (Ok last) judging old mid new check left so_far consumed at_end judged few =
-    whole_read judging old mid new check last left so_far consumed at_end judged few
-whole_where (Err fault) judging old mid new check left so_far consumed at_end judged few = tt
+    → IfOk result (λ last. lines_in last ≤ history_limit + 1)
+    → ((bytes : List ℕ) → HasChecked judging check bytes → IfOk result (λ last. IsSound judging (verdict_in last)))
+    → IfOk result (IsRead judging old new)
+whole_where (Ok last) judging old mid new check left so_far consumed at_end judged few sound =
+    whole_read judging old mid new check last left so_far consumed at_end judged few sound
+whole_where (Err fault) judging old mid new check left so_far consumed at_end judged few sound = tt
 
 -- or why it wasn't judged
 pub fault_where : (result : Result HistoryCheck HistoryFault) (judging : Judging) (old mid new : Option (List ℕ)) (check : HistoryCheck) (left : ℕ)

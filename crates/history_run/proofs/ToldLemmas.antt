@@ -1,23 +1,25 @@
 -- What is told of a history that was judged: for `judge_history` and `write_told`.
-use Rattle.std.proofs.Common.{◌≡◌, ℕ, List, [], Option, refl, sym, subst}
+use Rattle.std.proofs.Common.{◌≡◌, ℕ, List, [], OnOk, Option, Result, Ok, Err, refl, sym, subst}
 use Rattle.history_check.specs.declared.check.HistoryCheck.{HistoryCheck}
 use Rattle.history_check.specs.declared.judging.HistoryOutcome.{HistoryOutcome}
 use Rattle.history_check.specs.declared.judging.Judging.{Judging}
 use Rattle.history_check.specs.Checked.{verdict_in}
 use Rattle.history_check.specs.Told.{IsTold, outcome_of}
-use Rattle.history_check.specs.Verdicts.{Faulty, Illegal, Legal, LostWakeUps, Verdict}
+use Rattle.history_check.specs.Verdicts.{Faulty, Illegal, IsSound, Legal, LostWakeUps, Ordered, Verdict}
 use Rattle.history_run.specs.HistoryRuns.{IsPrinted, IsRead, Tells, TellsSome}
 
 -- nothing is printed of a history for which nothing is
-pub told_nothing : (verdict : Verdict) (outcome : HistoryOutcome) → outcome ≡ outcome_of verdict → (IsPrinted outcome → ⊥) → IsTold verdict []
-told_nothing Legal outcome is quiet = refl
-told_nothing (Faulty fault) outcome is quiet = refl
-told_nothing (Illegal number answer) outcome is quiet = absurd (quiet (subst IsPrinted (sym is) tt))
-told_nothing (LostWakeUps waits) outcome is quiet = absurd (quiet (subst IsPrinted (sym is) tt))
+pub told_nothing : (judging : Judging) (verdict : Verdict) (outcome : HistoryOutcome) → IsSound judging verdict → outcome ≡ outcome_of verdict
+    → (IsPrinted judging outcome → ⊥) → IsTold judging.states verdict []
+told_nothing judging Legal outcome sound is quiet = refl
+told_nothing judging (Ordered told) outcome sound is quiet = absurd (quiet (subst (IsPrinted judging) (sym is) sound.0))
+told_nothing judging (Faulty fault) outcome sound is quiet = refl
+told_nothing judging (Illegal number answer) outcome sound is quiet = absurd (quiet (subst (IsPrinted judging) (sym is) tt))
+told_nothing judging (LostWakeUps waits) outcome sound is quiet = absurd (quiet (subst (IsPrinted judging) (sym is) tt))
 
 -- what was read has this outcome, and so much was written
 pub tells : (judging : Judging) (old new : Option (List ℕ)) (check : HistoryCheck) (outcome : HistoryOutcome) (Written : List ℕ → Type 0)
-    → IsRead judging old new check → outcome ≡ outcome_of (verdict_in check) → TellsSome check Written → Tells judging old new outcome Written
+    → IsRead judging old new check → outcome ≡ outcome_of (verdict_in check) → TellsSome judging check Written → Tells judging old new outcome Written
 tells judging old new check outcome Written read is some = record {
   verdict = verdict_in check;
   judged = read.judged;
@@ -26,3 +28,13 @@ tells judging old new check outcome Written read is some = record {
   told = some.told;
   written = some.written;
 }
+
+-- so much is told of the history as was written
+pub told_where : {T E : Type 0} (result : Result T E) (judging : Judging) (check : HistoryCheck) (told text : List ℕ) (Written : List ℕ → Type 0) → text ≡ told
+    → IsTold judging.states (verdict_in check) told → OnOk result (Written text) → OnOk result (TellsSome judging check Written)
+told_where (Ok done) judging check told text Written is so written = record {
+  text = text;
+  told = subst (IsTold judging.states (verdict_in check)) (sym is) so;
+  written = written;
+}
+told_where (Err error) judging check told text Written is so written = tt

@@ -1,5 +1,5 @@
 -- What a judgement of a history does with its source and its sink (the words are this project's choice).
-use Rattle.std.specs.Prelude.{◌≡◌, ℕ, ◌+◌, ◌≤◌, ◌⊎◌, ⊤, Bool, IsTrue, Option, List, length}
+use Rattle.std.specs.Prelude.{◌≡◌, ℕ, ◌+◌, ◌≤◌, ◌⊎◌, ⊤, Bool, true, IsTrue, Option, List, length}
 use Rattle.std.specs.Io.KnownBytes.{Appends, Consumes, IsAtEnd}
 use Rattle.replay_core.specs.Devices.{TakesFront}
 use Rattle.history_core.specs.declared.search.SearchFault.{SearchFault}
@@ -10,7 +10,7 @@ use Rattle.history_check.specs.declared.judging.HistoryOutcome.TheVariants as ou
 use Rattle.history_check.specs.declared.judging.Judging.{Judging}
 use Rattle.history_check.specs.Checked.{HasChecked, IsLimited, lines_in, verdict_in}
 use Rattle.history_check.specs.Told.{IsTold, outcome_of}
-use Rattle.history_check.specs.Verdicts.{AreJudged, HistoryComes, Verdict, history_limit}
+use Rattle.history_check.specs.Verdicts.{AreJudged, HistoryComes, IsSound, Verdict, history_limit}
 use Rattle.history_run.specs.declared.runs.HistoryFault.{HistoryFault}
 use Rattle.history_run.specs.declared.runs.HistoryFault.TheVariants as faults
 
@@ -26,7 +26,7 @@ pub record Tells (judging : Judging) (read_old read_new : Option (List ℕ)) (ou
   pub judged : IsJudged judging read_old read_new verdict
   pub is_outcome : outcome ≡ outcome_of verdict
   pub text : List ℕ
-  pub told : IsTold verdict text
+  pub told : IsTold judging.states verdict text
   pub written : Written text
 
 -- it was written as a whole
@@ -46,17 +46,17 @@ pub record Exceeds (judging : Judging) (old new : Option (List ℕ)) : Type 0 wh
   pub limited : IsLimited judging input
 
 -- of what is told of the history so much was written
-pub record TellsSome (check : HistoryCheck) (Written : List ℕ → Type 0) : Type 0 where
+pub record TellsSome (judging : Judging) (check : HistoryCheck) (Written : List ℕ → Type 0) : Type 0 where
   pub text : List ℕ
-  pub told : IsTold (verdict_in check) text
+  pub told : IsTold judging.states (verdict_in check) text
   pub written : Written text
 
--- a history for which something is printed
-abbrev pub IsPrinted : HistoryOutcome → Type 0
-IsPrinted outcomes.Legal = ⊥
-IsPrinted outcomes.Illegal = ⊤
-IsPrinted outcomes.LostWakeUps = ⊤
-IsPrinted (outcomes.Faulty fault) = ⊥
+-- a history for which something is printed: a legal one where an order is kept
+abbrev pub IsPrinted : Judging → HistoryOutcome → Type 0
+IsPrinted judging outcomes.Legal = judging.order ≡ true
+IsPrinted judging outcomes.Illegal = ⊤
+IsPrinted judging outcomes.LostWakeUps = ⊤
+IsPrinted judging (outcomes.Faulty fault) = ⊥
 
 -- reading ends so: the source failed, the limit was reached, or a growth was refused
 abbrev pub IsReadFault : Judging → Option (List ℕ) → Option (List ℕ) → Bool → HistoryFault → Type 0
@@ -83,6 +83,7 @@ IsEndFault judging bytes faults.Write = ⊥
 -- what was read, judged to its end
 pub record IsRead (judging : Judging) (old new : Option (List ℕ)) (check : HistoryCheck) : Type 0 where
   pub judged : IsJudged judging old new (verdict_in check)
+  pub sound : IsSound judging (verdict_in check)
   pub few : lines_in check ≤ history_limit + 1
 
 -- why a search ended, as a fault of the run

@@ -2,7 +2,7 @@
 ghost use Rattle.std.specs.Prelude.{◌≡◌, ◌≢◌, ◌≤◌, ◌<◌, ◌+◌, ◌^◌, ℕ, List, Option, IfOk, IfErr, OnOk, OnErr, MatchResult, Ok, Err, IsTrue, length};
 ghost use Rattle.std.specs.Io.KnownBytes.{Appends};
 ghost use Rattle.history_check.specs.declared.judging.HistoryOutcome.{HistoryOutcome};
-ghost use Rattle.history_check.specs.Verdicts.{history_limit};
+ghost use Rattle.history_check.specs.Verdicts.{IsSound, history_limit};
 ghost use Rattle.history_check.specs.Checked.{HasChecked, HasJudged, lines_in, verdict_in};
 ghost use Rattle.history_check.specs.Told.{outcome_of};
 ghost use Rattle.replay_core.specs.Devices.{TakesFront};
@@ -73,8 +73,8 @@ impl From<Memory> for HistoryFault {
     }
 }
 
-/// Reads a history, line by line, until it is judged, and writes what is told of it: nothing where it is legal, or where it has a fault, which
-/// the outcome has.
+/// Reads a history, line by line, until it is judged, and writes what is told of it: nothing where it is legal and no order is kept, or where it
+/// has a fault, which the outcome has.
 ///
 /// No more is read than decides. A history that is too long is refused once one byte past the longest was read. It keeps no more of it than
 /// the line at hand, and what a [`HistoryCheck`] keeps.
@@ -87,7 +87,7 @@ pub fn judge_history<R: Source, W: Sink>(
     // What was read is all, or decides, and just what is to be told of it was written.
     ensures ok { IfOk result (λ outcome. WritesTold judging outcome
         (R.remaining source.old) (R.remaining source.new) (W.written sink.old) (W.written sink.new)) }
-    ensures quiet { IfOk result (λ outcome. ¬ IsPrinted outcome → sink.new ≡ sink.old) }
+    ensures quiet { IfOk result (λ outcome. ¬ IsPrinted judging outcome → sink.new ≡ sink.old) }
 
     // The limit is told only of what reaches it, a fault of reading only where the source failed, and one of writing only where the sink did;
     // then a front of what is to be told was written.
@@ -104,29 +104,32 @@ pub fn judge_history<R: Source, W: Sink>(
     ensures calls { R.calls source.new ≤ R.calls source.old + (history_limit + 1) }
 {
     let check = read_history(alloc, judging, source)?;
-    write_told(alloc, &check, sink)?;
+    write_told(alloc, judging, &check, sink)?;
     Ok(check.outcome())
 }
 
 /// Writes what is told of a history that was judged.
 fn write_told<W: Sink>(
     alloc: Global,
+    judging: Judging,
     check: &HistoryCheck,
     sink: &mut W,
 ) -> Result<(), HistoryFault>
-    requires { lines_in check.now + 1 < 2 ^ 64 }
-    ensures ok { OnOk result (TellsSome check.now (λ text. Appends (W.written sink.old) (W.written sink.new) text)) }
-    ensures quiet { OnOk result (¬ IsPrinted (outcome_of (verdict_in check.now)) → sink.new ≡ sink.old) }
-    ensures front { result ≡ Err HistoryFault.Write → TellsSome check.now (λ text. TakesFront (W.written sink.old) (W.written sink.new) text) }
+    requires few { lines_in check.now + 1 < 2 ^ 64 }
+    requires sound { IsSound judging (verdict_in check.now) }
+    ensures ok { OnOk result (TellsSome judging check.now (λ text. Appends (W.written sink.old) (W.written sink.new) text)) }
+    ensures quiet { OnOk result (¬ IsPrinted judging (outcome_of (verdict_in check.now)) → sink.new ≡ sink.old) }
+    ensures front { result ≡ Err HistoryFault.Write → TellsSome judging check.now (λ text. TakesFront (W.written sink.old) (W.written sink.new) text) }
     ensures failed { result ≡ Err HistoryFault.Write → IsTrue (W.failed sink.new) }
     ensures sound { result ≢ Err HistoryFault.Write → W.failed sink.new ≡ W.failed sink.old }
     ensures unwritten { IfErr result (λ fault. fault ≢ HistoryFault.Write → sink.new ≡ sink.old) }
     ensures known { (result ≢ Err HistoryFault.Read) × (result ≢ Err HistoryFault.Limit) }
 {
     match check.outcome() {
-        HistoryOutcome::Legal | HistoryOutcome::Faulty(_) => Ok(()),
-        HistoryOutcome::Illegal | HistoryOutcome::LostWakeUps => {
-            let text = check.told(alloc)?;
+        HistoryOutcome::Legal if !judging.order => Ok(()),
+        HistoryOutcome::Faulty(_) => Ok(()),
+        HistoryOutcome::Legal | HistoryOutcome::Illegal | HistoryOutcome::LostWakeUps => {
+            let text = check.told(alloc, judging.states)?;
             write_all(sink, &text)
         }
     }
@@ -193,6 +196,7 @@ fn ended(mut check: HistoryCheck) -> Result<HistoryCheck, HistoryFault>
     ensures judged { (judging : Judging) (bytes : List ℕ) → length bytes ≤ history_limit → HasChecked judging check bytes
         → MatchResult result (λ last. HasJudged judging last bytes) (IsEndFault judging bytes) }
     ensures few { IfOk result (λ last. lines_in last ≤ history_limit + 1) }
+    ensures sound { (judging : Judging) (bytes : List ℕ) → HasChecked judging check bytes → IfOk result (λ last. IsSound judging (verdict_in last)) }
     ensures fault { IfErr result (λ fault. fault ≢ HistoryFault.Read) }
 {
     check.end()?;

@@ -1,7 +1,7 @@
 //! Texts with faults, the earliest of which is told.
 use super::{PLAIN, judge};
 use history_check::HistoryOutcome::{Faulty, Illegal};
-use history_check::{HistoryCheck, Judging};
+use history_check::{HistoryCheck, Judging, LockStates};
 use history_core::SearchFault;
 use script_core::{Cause, ScriptFault};
 use std::test::Fail;
@@ -67,6 +67,8 @@ fn of_the_limit(rt: HostRuntime) -> Result<(), Fail> {
     let judging = Judging {
         runs: false,
         open_waits: false,
+        order: false,
+        states: LockStates::Nowhere,
         limit: 1,
     };
     let mut check = HistoryCheck::new(rt.alloc(), judging);

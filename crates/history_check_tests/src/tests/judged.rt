@@ -1,7 +1,7 @@
 //! Histories that are legal, and others.
 use super::{OPEN, PLAIN, judge};
 use history_check::HistoryOutcome::{Illegal, Legal, LostWakeUps};
-use history_check::{HistoryOutcome, Judging};
+use history_check::{HistoryOutcome, Judging, LockStates};
 use std::alloc::Global;
 use std::process::Abort;
 use std::test::Fail;
@@ -102,6 +102,8 @@ fn of_runs(rt: HostRuntime) -> Result<(), Fail> {
     let runs = Judging {
         runs: true,
         open_waits: false,
+        order: false,
+        states: LockStates::Nowhere,
         limit: 1000,
     };
     tells(

@@ -11,6 +11,7 @@ returns c =
         stays = c.answer-answered.ensures.stays;
         full = c.answer-answered.ensures.limit;
         err = c.answer-answered.ensures.err;
+        keeps = c.answer-answered.ensures.order;
       },
       c.count.ensures,
     )

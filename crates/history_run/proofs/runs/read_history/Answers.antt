@@ -29,7 +29,8 @@ loop-left-preserved g c =
 pub returns-then-is_decided-clause-whole : goal.returns-then-is_decided-clause-whole
 returns-then-is_decided-clause-whole g c =
     decided_read c.args.judging (g.R.Source.remaining c.args.source.now) (g.R.Source.remaining c.loop-left.source) c.loop-left.check c.loop-left.left
-    c.loop-left.invariant.0 (c.is_decided.ensures c.if-is_decided.true c.args.judging)
+    c.loop-left.invariant.0 (c.is_decided.ensures.decides c.if-is_decided.true c.args.judging)
+    (c.is_decided.ensures.sound c.if-is_decided.true c.args.judging)
 
 pub returns-in-Ok-eq0-clause-whole : goal.returns-in-Ok-eq0-clause-whole
 returns-in-Ok-eq0-clause-whole g c =
@@ -38,7 +39,7 @@ returns-in-Ok-eq0-clause-whole g c =
     (g.R.Source.remaining c.read_some.new.self) c.loop-left.check c.loop-left.left c.loop-left.invariant.0
     (no_bytes (g.R.Source.remaining c.loop-left.source) (g.R.Source.remaining c.read_some.new.self) c.read_some.new.room c.in-Ok-eq0.field-0 none
     c.in-Ok-eq0.ensures.some.consumed)
-    (c.in-Ok-eq0.ensures.some.end none) (c.ended.ensures.judged c.args.judging) c.ended.ensures.few
+    (c.in-Ok-eq0.ensures.some.end none) (c.ended.ensures.judged c.args.judging) c.ended.ensures.few (c.ended.ensures.sound c.args.judging)
 
 pub returns-in-Ok-eq0-clause-fault : goal.returns-in-Ok-eq0-clause-fault
 returns-in-Ok-eq0-clause-fault g c =

@@ -22,14 +22,15 @@ answer-requires c =
 pub returns-in_ok-read-in-Skipped-clause-judges : goal.returns-in_ok-read-in-Skipped-clause-judges
 returns-in_ok-read-in-Skipped-clause-judges c = λ judging before read.
     let old = c.args.self.now in
-    line_said judging old old c.read.new.self before c.args.said (old.before + 1) read c.requires.says refl refl c.requires.unfound
+    line_said judging old old c.read.new.self before c.args.said (old.before + 1) read c.requires.says refl refl refl refl c.requires.unfound
     (known_still judging.runs old.judge before c.args.said c.in-Skipped.is read.knows) c.in_ok-read-in-Skipped.ensures.ok refl
 
 pub returns-in_ok-read-in-Sent-clause-judges : goal.returns-in_ok-read-in-Sent-clause-judges
 returns-in_ok-read-in-Sent-clause-judges c = λ judging before read.
     let old = c.args.self.now in
     line_said judging old (record old { judge = c.send.new.judge }) c.read-in-Sent.new.self before (Sent c.in-Sent.file c.in-Sent.request) (old.before + 1) read
-    (subst (λ (s : HistoryLine). LineGives (requested_in old.judge) old.line.items (Ok s)) c.in-Sent.is c.requires.says) refl refl c.requires.unfound
+    (subst (λ (s : HistoryLine). LineGives (requested_in old.judge) old.line.items (Ok s)) c.in-Sent.is c.requires.says) refl refl refl
+    c.in_ok-send-in-Sent.ensures.keeps c.requires.unfound
     (c.in_ok-send-in-Sent.ensures.ok judging.runs (history_of before) read.knows) c.in_ok-read-in-Sent.ensures.ok refl
 
 pub returns-in_ok-read-in-Answered-clause-judges : goal.returns-in_ok-read-in-Answered-clause-judges
@@ -37,7 +38,8 @@ returns-in_ok-read-in-Answered-clause-judges c = λ judging before read.
     let old = c.args.self.now in
     line_said judging old (record old { judge = c.answer.new.judge }) c.read-then-branch.new.self before (Answered c.in-Answered.id c.in-Answered.told)
     (old.before + 1) read
-    (subst (λ (s : HistoryLine). LineGives (requested_in old.judge) old.line.items (Ok s)) c.in-Answered.is c.requires.says) refl refl c.requires.unfound
+    (subst (λ (s : HistoryLine). LineGives (requested_in old.judge) old.line.items (Ok s)) c.in-Answered.is c.requires.says) refl refl refl
+    c.in_ok-answer-in-Answered.ensures.keeps c.requires.unfound
     (c.in_ok-answer-in-Answered.ensures.legal c.if-branch.true judging.runs (history_of before) read.knows) c.in_ok-read-in-Answered.ensures.ok refl
 
 pub returns-else-branch-clause-judges : goal.returns-else-branch-clause-judges

@@ -12,4 +12,4 @@ pub returns-clause-checked : goal.returns-clause-checked
 returns-clause-checked c = λ judging front checked.
     let short : length c.args.self.now.line.items < line_limit = omega (arith, c.if-len-ge-LINE_MAX.false, c.len.ensures) in
     grown judging c.args.self.now (record c.args.self.now { line = c.push.new.self }) front c.args.byte c.requires.unfound checked
-    (goes_on c.args.byte c.requires.goes_on) short refl refl refl refl refl (search rules)
+    (goes_on c.args.byte c.requires.goes_on) short refl refl refl refl refl refl (search rules)

@@ -16,7 +16,7 @@ invariant_of-self c = record {
 
 pub returns-clause-legal : goal.returns-clause-legal
 returns-clause-legal c =
-    answer_takes c.args.self.now _ c.args.file c.args.id c.room_beside-room.result c.answer_on-answered.result.1 c.args.answer refl c.answer_on-answered.result.0
+    answer_takes c.args.self.now _ c.args.file c.args.id c.room_beside-room.result c.answer_on-answered.result.1 c.args.answer refl refl c.answer_on-answered.result.0
     c.answer_on-answered.ensures
 
 pub returns-clause-illegal : goal.returns-clause-illegal
@@ -26,7 +26,7 @@ returns-clause-illegal c =
 
 pub returns-clause-stays : goal.returns-clause-stays
 returns-clause-stays c =
-    answer_keeps c.args.self.now _ c.args.file c.args.id c.room_beside-room.result c.answer_on-answered.result.1 c.args.answer refl c.answer_on-answered.result.0
+    answer_keeps c.args.self.now _ c.args.file c.args.id c.room_beside-room.result c.answer_on-answered.result.1 c.args.answer refl refl c.answer_on-answered.result.0
     c.answer_on-answered.ensures
 
 pub returns-clause-room : goal.returns-clause-room
@@ -39,5 +39,5 @@ returns-clause-limit c told =
 
 pub returns-clause-err : goal.returns-clause-err
 returns-clause-err c =
-    answer_stays c.args.self.now _ c.args.file c.args.id c.room_beside-room.result c.answer_on-answered.result.1 c.args.answer refl c.answer_on-answered.result.0
+    answer_stays c.args.self.now _ c.args.file c.args.id c.room_beside-room.result c.answer_on-answered.result.1 c.args.answer refl refl c.answer_on-answered.result.0
     c.answer_on-answered.ensures

@@ -10,7 +10,7 @@ invariant_of-self c = record {
 
 pub returns-clause-ok : goal.returns-clause-ok
 returns-clause-ok c =
-    sent_takes c.args.self.now _ c.args.file c.room_beside-room.result c.send_on-sent.result.1 c.args.request refl c.send_on-sent.result.0 c.send_on-sent.ensures
+    sent_takes c.args.self.now _ c.args.file c.room_beside-room.result c.send_on-sent.result.1 c.args.request refl refl c.send_on-sent.result.0 c.send_on-sent.ensures
 
 pub returns-clause-limit : goal.returns-clause-limit
 returns-clause-limit c told =
@@ -19,4 +19,4 @@ returns-clause-limit c told =
 
 pub returns-clause-err : goal.returns-clause-err
 returns-clause-err c =
-    sent_stays c.args.self.now _ c.args.file c.room_beside-room.result c.send_on-sent.result.1 c.args.request refl c.send_on-sent.result.0 c.send_on-sent.ensures
+    sent_stays c.args.self.now _ c.args.file c.room_beside-room.result c.send_on-sent.result.1 c.args.request refl refl c.send_on-sent.result.0 c.send_on-sent.ensures

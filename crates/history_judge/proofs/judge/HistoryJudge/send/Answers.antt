@@ -1,21 +1,22 @@
 use Rattle.std.proofs.Common.{rules, ◌≡◌, ◌∙◌, Err, None, ap, refl, sym}
 use Rattle.std.specs.BTreeMap.{get}
 use Rattle.std.specs.Ordering.{nat_cmp}
+use Rattle.history_judge.specs.Histories.{Sent}
 use Rattle.history_judge.proofs.FilesLemmas.{none_found, on_err, some_found}
-use Rattle.history_judge.proofs.JudgeLemmas.{exceeds_there, free_on, history_sent, history_still, known_sent, known_still, limit_of, never_impossible, never_taken, never_told, never_unknown, puts_back, same_entries}
+use Rattle.history_judge.proofs.JudgeLemmas.{exceeds_there, free_on, history_sent, history_still, known_sent, known_still, limit_of, logged_more, logged_still, never_impossible, never_taken, never_told, never_unknown, puts_back, same_entries}
 use Rattle.history_judge.proofs.judge.HistoryJudge.send.Goals as goal
 
 pub returns-then-contains_key-clause-taken : goal.returns-then-contains_key-clause-taken
 returns-then-contains_key-clause-taken c = (λ told. some_found _ (sym c.contains_key.ensures ∙ c.if-contains_key.true), λ has. refl)
 
 pub returns-then-contains_key-clause-err : goal.returns-then-contains_key-clause-err
-returns-then-contains_key-clause-err c runs lines known = known
+returns-then-contains_key-clause-err c runs lines knows = knows
 
 pub returns-then-contains_key-clause-err_open : goal.returns-then-contains_key-clause-err_open
 returns-then-contains_key-clause-err_open c id = refl
 
-pub invariant_of-self : goal.invariant_of-self
-invariant_of-self c = record {
+pub invariant_of-self-in-Break-branch-2 : goal.invariant_of-self-in-Break-branch-2
+invariant_of-self-in-Break-branch-2 c = record {
   known = history_still c.args.self.now.files c.args.self.now.files c.args.self.now.opened c.put_request.new.opened refl (λ runs lines known. known)
       (same_entries c.args.self.now.opened c.put_request.new.opened c.in_err-put_request.ensures.err) c.args.self.now.known;
 }
@@ -26,12 +27,13 @@ returns-in_err-put_request-clause-taken c =
     (λ told. absurd (let e : ⊥ = search rules in e), λ has. absurd (has free))
 
 pub returns-in_err-put_request-clause-err : goal.returns-in_err-put_request-clause-err
-returns-in_err-put_request-clause-err c = on_err c.from_residual.result (λ runs lines known.
-    known_still runs c.args.self.now.files c.args.self.now.files c.args.self.now.opened c.put_request.new.opened lines (λ r ls k. k)
-    (same_entries c.args.self.now.opened c.put_request.new.opened c.in_err-put_request.ensures.err) known)
+returns-in_err-put_request-clause-err c = on_err c.from_residual-in_err-put_request.result (λ runs lines knows.
+    logged_still runs c.args.self.now _ lines c.make_room.ensures.items refl knows
+    (known_still runs c.args.self.now.files c.args.self.now.files c.args.self.now.opened c.put_request.new.opened lines (λ r ls k. k)
+    (same_entries c.args.self.now.opened c.put_request.new.opened c.in_err-put_request.ensures.err) knows.known))
 
 pub returns-in_err-put_request-clause-err_open : goal.returns-in_err-put_request-clause-err_open
-returns-in_err-put_request-clause-err_open c = on_err c.from_residual.result
+returns-in_err-put_request-clause-err_open c = on_err c.from_residual-in_err-put_request.result
     (same_entries c.args.self.now.opened c.put_request.new.opened c.in_err-put_request.ensures.err)
 
 pub send-requires : goal.send-requires
@@ -66,11 +68,12 @@ returns-in-Err-clause-limit c told = exceeds_there c.args.self.now c.args.limit
     (c.in-Err.ensures.limit (ap (λ f. Err f) (limit_of (Err c.from.result) c.in-Err.fault (ap (λ f. Err f) c.from.ensures) told)))
 
 pub returns-in-Err-clause-err : goal.returns-in-Err-clause-err
-returns-in-Err-clause-err c runs lines known =
+returns-in-Err-clause-err c runs lines knows =
     let free : get nat_cmp c.args.self.now.opened c.args.request.id ≡ None = none_found _ (sym c.contains_key.ensures ∙ c.if-contains_key.false) in
-    known_still runs c.args.self.now.files c.send.new.self c.args.self.now.opened c.remove_request.new.opened lines c.in-Err.ensures.err
+    logged_still runs c.args.self.now _ lines c.make_room.ensures.items c.send.ensures.keeps knows
+    (known_still runs c.args.self.now.files c.send.new.self c.args.self.now.opened c.remove_request.new.opened lines c.in-Err.ensures.err
     (puts_back c.args.self.now.opened c.put_request.new.opened c.remove_request.new.opened c.args.request.id _ free c.in_ok-put_request.ensures.ok
-    c.remove_request.ensures) known
+    c.remove_request.ensures) knows.known)
 
 pub returns-in-Err-clause-err_open : goal.returns-in-Err-clause-err_open
 returns-in-Err-clause-err_open c =
@@ -87,10 +90,12 @@ invariant_of-self-in-Ok c =
     }
 
 pub returns-in-Ok-clause-ok : goal.returns-in-Ok-clause-ok
-returns-in-Ok-clause-ok c runs lines known =
+returns-in-Ok-clause-ok c runs lines knows =
     let free : get nat_cmp c.args.self.now.opened c.args.request.id ≡ None = none_found _ (sym c.contains_key.ensures ∙ c.if-contains_key.false) in
-    known_sent runs c.args.self.now.files c.send.new.self c.args.self.now.opened c.put_request.new.opened lines c.args.line c.args.file c.args.request free
-    c.in-Ok.ensures.ok c.in_ok-put_request.ensures.ok known
+    logged_more runs c.args.self.now _ lines (Sent c.args.file c.args.request) c.args.file c.make_room.new.line_files.items refl c.make_room.ensures.items
+    (λ keeps. c.log_line.ensures (c.keeps_order-keeps.ensures ∙ keeps)) c.send.ensures.keeps knows
+    (known_sent runs c.args.self.now.files c.send.new.self c.args.self.now.opened c.put_request.new.opened lines c.args.line c.args.file c.args.request free
+    c.in-Ok.ensures.ok c.in_ok-put_request.ensures.ok knows.known)
 
 pub returns-in-Ok-clause-open : goal.returns-in-Ok-clause-open
 returns-in-Ok-clause-open c = c.in_ok-put_request.ensures.ok
