@@ -158,6 +158,36 @@ check 2 empty explain-check.err conversion --check --state all --explain
 check 2 empty state-twice.err empty --state 1 --state all
 check 2 empty state-empty.err empty state --state
 
+# Every order: two processes that take two bytes in opposite order, where either may be stuck behind the other that never lets go, or be told
+# EDEADLK. A run alone is legal as it stands; nothing is printed where no order shows the finding. The limit leaves out the fourth situation.
+check 3 crossed.explored empty empty --explore crossed
+check 3 crossed.explored empty crossed --explore
+check 3 crossed.explored empty crossed - --explore --limit=14
+check 4 crossed.limited empty empty --limit 3 --explore crossed
+check 3 crossed.deadlock empty empty --explore --run deadlock crossed
+check 3 crossed.stuck empty empty --explore --run stuck crossed
+check 3 empty empty empty --explore --run busy crossed
+check 4 empty empty empty --explore --limit 3 --run stuck crossed
+check 0 crossed.explored empty empty --explore --fail-on busy,lost crossed
+check 3 crossed.explored empty empty --explore --fail-on busy,stuck crossed
+check 0 crossed.stuck empty empty --explore --run stuck --fail-on unborn crossed
+check 0 empty empty crossed.deadlock --check
+check 0 empty empty crossed.stuck --check
+check 3 once.busy empty empty --explore --run busy once
+check 0 once.busy empty once --run=busy --explore --fail-on=lost,deadlock
+check 0 empty empty once.busy --check
+check 2 empty faulty.err empty --explore faulty
+check 1 empty read-failed.err empty --explore missing
+check 2 empty no-limit.err crossed --explore --limit 0
+check 2 empty no-limit.err crossed --explore --limit 010
+check 2 empty no-finding.err empty --explore --run starved missing
+check 2 empty no-finding.err crossed --explore --run ''
+check 2 empty no-list.err crossed --explore --fail-on ''
+check 2 empty no-list.err crossed --explore --fail-on stuck,
+check 2 empty no-list.err crossed --explore --fail-on stuck,Busy
+check 2 empty explore-explain.err empty --explore --explain missing
+check 2 empty unknown-flag.err empty --thread -- --explore
+
 # A history: legal, with an answer that came too soon, with waits that nobody woke, with a part of a run that a get told, with a bad line; and
 # under a limit of two possibilities, where three are open: before the unlock, behind it, and behind the wait that it let through.
 check 0 empty empty empty --history history
@@ -174,6 +204,19 @@ check 3 history-runs.out empty empty --runs --history history-runs
 check 2 empty history-faulty.err empty --history history-faulty
 check 4 empty history-limit.err empty --history --limit 2 history
 check 0 empty empty empty --history --limit 3 history
+check 0 history-order.out empty empty --history --order history
+check 0 history-order.out empty history --order --open --limit 3 --history
+check 0 history-states.out empty empty --history --order --state all history
+check 0 history-states.out empty history --state=all --history --order -
+check 0 history-state.out empty empty --history --order --state 2 history
+check 0 history-order.out empty empty --history --order --state 5 history
+check 2 empty history-unordered.err empty --history --state all history
+check 2 empty history-line.err empty --history --order --state 0 history
+check 2 empty history-line.err empty --history --order --state changes history
+check 3 history-late.out empty empty --history --order history-late
+check 3 history-late.out empty empty --history --order --state all history-late
+check 2 empty history-faulty.err empty --history --order history-faulty
+check 4 empty history-limit.err empty --history --order --limit 2 history
 check 1 empty read-failed.err empty --history missing
 check 2 empty no-limit.err history --history --limit 0
 check 2 empty no-limit.err history --history --limit 01

@@ -1,5 +1,5 @@
 -- What the program's command line says (the command line is this project's choice).
-use Rattle.std.specs.Prelude.{◌≡◌, ◌≢◌, ◌||◌, Bool, true, false, List, [], ◌∷◌, Option, Some, None, Result, MatchResult, IsErr, codes, option_map}
+use Rattle.std.specs.Prelude.{◌≡◌, ◌≢◌, ◌||◌, Bool, true, false, List, [], ◌∷◌, Option, Some, None, Result, MatchResult, IsErr, codes, option_map, bytes_eq, if◌then◌else◌}
 use Rattle.clap.specs.Simple.{on_top}
 use Rattle.clap.specs.Words.{App, Rule, Text, first_of, kind_of, matches_of, one_of, new_app, new_rule, with_rule}
 use Rattle.clap.specs.declared.builder.action.ArgAction.TheVariants.{SetTrue}
@@ -18,6 +18,16 @@ flag_rule name = record (new_rule name) { long = Some name; action = Some SetTru
 -- the option with this name, which stands before its value
 abbrev pub option_rule : Text → Rule
 option_rule name = record (new_rule name) { long = Some name; value_names = 1 }
+
+-- whether one of the words before the first `--` is this flag
+abbrev pub has_word : Text → List Text → Bool
+has_word flag [] = false
+has_word flag (word ∷ words) = if bytes_eq word (codes "--") then false else bytes_eq word flag || has_word flag words
+
+-- whether the words, the first of which is the program's name, ask for this flag
+abbrev pub asks_for : Text → List Text → Bool
+asks_for flag [] = false
+asks_for flag (name ∷ words) = has_word flag words
 
 -- the flags of the program
 pub data Flag : Type 0 where

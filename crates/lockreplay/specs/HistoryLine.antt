@@ -1,27 +1,21 @@
 -- What the program's command line says where it asks for a history (the command line is this project's choice).
-use Rattle.std.specs.Prelude.{Bool, false, ◌||◌, List, [], ◌∷◌, Option, codes, bytes_eq, if◌then◌else◌}
+use Rattle.std.specs.Prelude.{List, Option, codes}
 use Rattle.clap.specs.Words.{App, Text, first_of, matches_of, one_of, with_rule}
 use Rattle.lockreplay.specs.CommandLine.{file_argument, flag_rule, option_rule, versioned_app}
 
--- whether one of the words before the first `--` is `--history`
-abbrev pub has_history : List Text → Bool
-has_history [] = false
-has_history (word ∷ words) = if bytes_eq word (codes "--") then false else bytes_eq word (codes "--history") || has_history words
-
--- whether the words, the first of which is the program's name, ask for a history
-abbrev pub asks_for_history : List Text → Bool
-asks_for_history [] = false
-asks_for_history (name ∷ words) = has_history words
-
--- the command `lockreplay --history [--limit N] [--open] [--runs] [FILE]`, to which clap adds `--help`, `-h`, `--version` and `-V`
+-- the command `lockreplay --history [--limit N] [--open] [--runs] [--order] [--state N] [FILE]`, to which clap adds `--help`, `-h`, `--version` and `-V`
 abbrev pub history_line : App
 history_line =
     with_rule
+    (with_rule
+    (with_rule
     (with_rule (with_rule (with_rule (with_rule versioned_app (flag_rule (codes "history"))) (option_rule (codes "limit"))) (flag_rule (codes "open")))
     (flag_rule (codes "runs")))
+    (flag_rule (codes "order")))
+    (option_rule (codes "state")))
     file_argument
 
--- the FILE of these words, by the matches that clap states for them, and the word behind --limit
+-- the FILE of these words, by the matches that clap states for them, and the words behind --limit and --state
 abbrev pub value_in : Text → List Text → Option Text
 value_in name words = first_of name (matches_of history_line words)
 

@@ -1,4 +1,6 @@
 pub mod CommandLine
+pub mod ExploreLine
+pub mod Explorings
 pub mod Faults
 pub mod Jobs
 pub mod HistoryLine

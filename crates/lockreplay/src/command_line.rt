@@ -1,7 +1,7 @@
 //! The command line of the program, read by `clap`.
 ghost use Rattle.std.specs.Prelude.{◌≡◌, IfOk, IfErr, map, option_map, string_bytes, false, true};
 ghost use Rattle.clap.specs.Words.{FailsBy, app_of, fault_of, kind_of, rule_of, takes};
-ghost use Rattle.lockreplay.specs.CommandLine.{Flag, FollowsUsage, IsGiven, command_line, file_of, state_in, option_rule, flag_in, flag_rule, has_flag};
+ghost use Rattle.lockreplay.specs.CommandLine.{Flag, FollowsUsage, IsGiven, command_line, file_of, state_in, option_rule, flag_in, flag_rule, has_flag, has_word};
 ghost use Rattle.lockreplay.specs.CommandLine as spec;
 
 use crate::options::Options;
@@ -74,6 +74,31 @@ fn command<'a>(alloc: Global) -> Result<Command<'a>, AllocError>
         .arg(file_argument(alloc))
 }
 
+/// Whether these words, the first of which is the program's name, have this flag before the first `--`.
+pub fn asks_for(words: &[String], flag: &str) -> bool
+    ensures { result ≡ spec.asks_for flag.now (map string_bytes words.now) }
+{
+    match words {
+        [] => false,
+        [_, words @ ..] => has_word_before_hyphens(words, flag),
+    }
+}
+
+/// Whether one of the words before the first `--` is this flag.
+fn has_word_before_hyphens(words: &[String], flag: &str) -> bool
+    ensures { result ≡ has_word flag.now (map string_bytes words.now) }
+{
+    for word in words {
+        if word.as_str() == "--" {
+            return false;
+        }
+        if word.as_str() == flag {
+            return true;
+        }
+    }
+    false
+}
+
 /// FILE, which may be left out.
 pub fn file_argument<'a>(alloc: Global) -> Arg<'a>
     ensures rule { rule_of result ≡ spec.file_argument }
@@ -115,8 +140,8 @@ pub const ABOUT: &str =
 
 /// How a script is written, and what comes of it. With what clap puts before it, its first 9 lines fill a screen of 24.
 pub const GUIDE: &str =
-    "Exit status: 0 replayed or legal, 3 illegal, 2 input or command line refused
-  or --help, 4 --limit reached, 1 FILE, read, write, memory or thread failed
+    "Exit status: 0 replayed or legal, 3 illegal or found, 2 input or command line
+  refused or --help, 4 --limit, 1 FILE, read, write, memory or thread failed
 
 Example:
   $ printf '1 open 0 rw\\n1 setlk 0 w set 0 100\\n' | lockreplay
@@ -224,6 +249,35 @@ Check:
     line 5: proc 1 sent 2 taken 2 answered 2 live expected
     line 6: no line expected                  the report was whole before
 
+Explore:
+  With --explore every order is searched in which the requests of a script can
+  be taken: those of each process in turn, processes in any order, until no live
+  process has one left. It is told of each of these whether some order shows it:
+    deadlock     a request is told EDEADLK
+    stuck        a process waits at the end: nobody is left who lets it go
+    dropped      a close or dup2 removes setlk locks of its process, which has a
+                 descriptor of that file open still
+    lost         a flock that would change its lock is refused or waits: the old
+                 lock is gone
+    busy         a set command or flock is told EAGAIN
+    interrupted  a wait is told EINTR
+    killed       a process that has locks is killed by another
+    unborn       at the end requests are left of a process that was never born
+  by one of these lines, and behind them the situations are counted:
+    deadlock possible in 6 events             the shortest run that shows it
+    stuck never                               no order does
+    lost not found in 500 situations          --limit was reached
+    situations 383                            all that the orders lead to
+    ends 2                                    those in which runs end
+    longest 12                                events of the longest run
+  Then, of each that is possible but busy, interrupted and killed, a line with
+  # and its name, and the run as --explain prints it. Status 3 where another is
+  possible than these three; else 4 where the limit was reached.
+  Beside --explore only these may stand:
+  --limit N       keeps N situations at most, 10000000 where it isn't given
+  --fail-on LIST  gives status 3 for these, such as deadlock,busy, alone
+  --run FINDING   prints the run of this one alone, which --check accepts
+
 History:
   With --history a log of concurrent requests is judged: was there an order in
   which every answer is permitted? Lines come in the order in which one clock
@@ -251,6 +305,16 @@ History:
              end may wait still; if not, status 3, and for each of them
     7 waits since 12                         its ID, and the line of its >
   --runs     demands of each held a largest run of that owner's mode
+  --order    tells an order of the effects of a legal history, in which every
+             answer was permitted; those without effect are left out
+    3 behind 5                               its ID, and the line behind which
+                                             it came
+    4 lets go behind 6                       a flock let its old lock go, and
+                                             sets another mode later, or none
+  --state N  beside --order: tells the locks of all files behind its N-th line,
+             or behind each with all
+    # lock 0 2 w 5 5                         file, owner, mode, first and last
+    # flock 0 1 ex                           sh or ex, behind its byte locks
 
 Faults, on standard error:
   A faulty script isn't run. The first faulty line is told, here by fault 3:

@@ -7,6 +7,7 @@ ghost use Rattle.lockreplay.specs.Faults.{exit_status};
 use crate::options::Misuse;
 use clap::error::ErrorKind;
 use history_run::HistoryFault;
+use range_core::Memory;
 use replay_core::RunFault;
 use std::io;
 use std::io::ErrorKind as InputErrorKind;
@@ -20,7 +21,7 @@ pub enum Fault {
     CommandLine(clap::Error),
     /// The command line asks for what can't be had.
     #[error("{0}")]
-    Misuse(Misuse),
+    Misuse(#[from] Misuse),
     /// A growth was refused before the run, as clap or a call for input tells it. The text is that of a run.
     #[error("lockreplay: no memory\n")]
     OutOfMemory,
@@ -30,6 +31,16 @@ pub enum Fault {
     /// Nothing is claimed of the history.
     #[error("lockreplay: {0}\n")]
     History(#[from] HistoryFault),
+}
+
+impl From<Memory> for Fault {
+    ghost use Rattle.lockreplay.specs.declared.faults.Fault.{Fault};
+
+    ghost from_gives = { λ memory fault. fault ≡ Fault.OutOfMemory };
+
+    fn from(_memory: Memory) -> Fault {
+        Fault::OutOfMemory
+    }
 }
 
 impl Fault {

@@ -1,14 +1,19 @@
-//! Replays a script of requests to the lock manager: prints each event, also what explains it, and then what is held. Or checks such a
-//! journal. Or judges a concurrent history of locks.
+//! Replays a script of requests to the lock manager: prints each event, also what explains it, and then what is held. Or searches every
+//! order of its requests. Or checks such a journal. Or judges a concurrent history of locks.
 #![tactic(auto)]
 
+ghost use Rattle.std.specs.Prelude.{◌≤◌};
 ghost use Rattle.lockreplay.specs.Faults.{StatusTells};
 
 mod command_line;
+mod explore_line;
 mod faults;
 mod history_line;
 mod options;
 
+use command_line::asks_for;
+use explore_line::explore_options;
+use explore_run::{Exploring, explore_script};
 use faults::Fault;
 use history_check::{HistoryOutcome, Judging};
 use history_run::judge_history;
@@ -43,7 +48,11 @@ fn run(
         .collect(rt.alloc())
         .map_err(Memory::from)
         .map_err(RunFault::Memory)?;
-    if history_line::is_asked_for(&words) {
+    if asks_for(&words, "--explore") {
+        let options = explore_options(rt.alloc(), &words).map_err(Fault::of_command_line)?;
+        let exploring = options.exploring(rt.alloc())?;
+        explore(rt, &exploring, path_of(options.file))
+    } else if asks_for(&words, "--history") {
         let options = history_line::history_options(rt.alloc(), &words).map_err(
             Fault::of_command_line,
         )?;
@@ -71,6 +80,28 @@ fn replay(
         None => {
             let mut source = FromReader::new(rt.reader());
             perform(rt, job, &mut source, &mut sink)?
+        }
+    };
+    Ok(outcome.status())
+}
+
+/// Searches every order of the script in the file, or on standard input where there is none, and writes to standard output.
+fn explore(
+    rt: &(impl AllocGlobal + Files + Input + Print),
+    exploring: &Exploring,
+    path: Option<&str>,
+) -> Result<u8, Fault>
+    requires { 1 ≤ exploring.now.limit }
+{
+    let mut sink = ToWriter::new(io::writer(rt));
+    let outcome = match path {
+        Some(path) => {
+            let mut source = FromReader::new(fs::open(rt, path).map_err(Fault::of_input)?);
+            explore_script(rt.alloc(), exploring, &mut source, &mut sink)?
+        }
+        None => {
+            let mut source = FromReader::new(rt.reader());
+            explore_script(rt.alloc(), exploring, &mut source, &mut sink)?
         }
     };
     Ok(outcome.status())

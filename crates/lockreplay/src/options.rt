@@ -1,11 +1,17 @@
 //! What a command line asks for.
-ghost use Rattle.std.specs.Prelude.{◌≡◌, ◌≢◌, Some, None, codes, option_map};
+ghost use Rattle.std.specs.Prelude.{◌≡◌, ◌≢◌, ◌≤◌, Some, None, IfOk, MatchResult, codes, option_map};
 ghost use Rattle.lockreplay.specs.Jobs.{IsJobOf, IsDetailOf};
-ghost use Rattle.lockreplay.specs.Judgings.{IsJudgingOf, IsLimitOf};
+ghost use Rattle.lockreplay.specs.Judgings.{AreStatesAsked, AreStatesOf, IsJudgingOf, IsLimitAsked, IsLimitOf};
+ghost use Rattle.lockreplay.specs.Explorings.{AreFailures, IsExploringFault, IsExploringOf, IsPrintedAsked, IsSituationLimit};
 
-use history_check::Judging;
+use crate::faults::Fault;
+use explore_core::Finding;
+use explore_run::{Exploring, Printed, finding_of, findings_of};
+use history_check::{Judging, LockStates};
+use range_core::Memory;
 use replay_core::{Detail, Job};
 use script_core::{States, natural_of};
+use std::alloc::Global;
 use thiserror::Error;
 
 /// What a command line can't ask for. The text is as clap's.
@@ -23,9 +29,21 @@ pub enum Misuse {
     /// `--state` with what is neither `all`, `changes` nor the number of an entry.
     #[error("error: invalid value for '--state <N>': the number of an entry, from 1 on, or all, or changes\n\nFor more information, try '--help'.\n")]
     Entry,
+    /// `--state` beside `--history`, without `--order`.
+    #[error("error: the argument '--state <N>' cannot be used without '--order'\n\nFor more information, try '--help'.\n")]
+    Unordered,
+    /// `--state` beside `--history`, with what is neither `all` nor the number of a line.
+    #[error("error: invalid value for '--state <N>': the number of a line of the order, from 1 on, or all\n\nFor more information, try '--help'.\n")]
+    Line,
     /// `--limit` with what is no number from 1 on.
     #[error("error: invalid value for '--limit <N>': a number, from 1 on\n\nFor more information, try '--help'.\n")]
     Limit,
+    /// `--run` with what is no finding.
+    #[error("error: invalid value for '--run <FINDING>': deadlock, stuck, dropped, lost, busy, interrupted, killed or unborn\n\nFor more information, try '--help'.\n")]
+    Run,
+    /// `--fail-on` with what is no list of findings.
+    #[error("error: invalid value for '--fail-on <LIST>': findings, with commas between them\n\nFor more information, try '--help'.\n")]
+    FailOn,
 }
 
 /// What a command line asks for.
@@ -81,6 +99,10 @@ pub struct HistoryOptions<'a> {
     pub open_waits: bool,
     /// Whether a get tells largest ranges alone.
     pub runs: bool,
+    /// Whether an order of a legal history's effects is told.
+    pub order: bool,
+    /// Behind which of its lines the locks are told, as it stands on the command line.
+    pub state: Option<&'a str>,
     /// How many possibilities may be kept at once, as it stands on the command line.
     pub limit: Option<&'a str>,
     /// FILE, as it stands on the command line.
@@ -90,17 +112,52 @@ pub struct HistoryOptions<'a> {
 impl HistoryOptions<'_> {
     /// How the history is judged.
     pub fn judging(self) -> Result<Judging, Misuse>
-        ensures { IsJudgingOf self.entry.open_waits self.entry.runs (option_map (λ word. word.now) self.entry.limit) result }
+        ensures { IsJudgingOf self.entry.open_waits self.entry.runs self.entry.order (option_map (λ word. word.now) self.entry.state)
+            (option_map (λ word. word.now) self.entry.limit) result }
     {
-        let limit = match self.limit {
-            Some(word) => limit_of(word)?,
-            None => LIMIT,
-        };
+        let limit = self.limit()?;
+        let states = self.states()?;
         Ok(Judging {
             runs: self.runs,
             open_waits: self.open_waits,
+            order: self.order,
+            states,
             limit,
         })
+    }
+
+    /// How many possibilities may be kept at once.
+    fn limit(self) -> Result<usize, Misuse>
+        ensures { IsLimitAsked (option_map (λ word. word.now) self.entry.limit) result }
+    {
+        match self.limit {
+            Some(word) => limit_of(word),
+            None => Ok(LIMIT),
+        }
+    }
+
+    /// Behind which lines of the order the locks are told. Only an order has any.
+    fn states(self) -> Result<LockStates, Misuse>
+        ensures { AreStatesAsked self.entry.order (option_map (λ word. word.now) self.entry.state) result }
+    {
+        match self.state {
+            None => Ok(LockStates::Nowhere),
+            Some(_) if !self.order => Err(Misuse::Unordered),
+            Some(word) => states_of(word),
+        }
+    }
+}
+
+/// The lines of an order behind which a word asks for the locks: `all`, or the number of a line, from 1 on, without leading zeros.
+fn states_of(word: &str) -> Result<LockStates, Misuse>
+    ensures { AreStatesOf word.now result }
+{
+    if word == "all" {
+        return Ok(LockStates::Everywhere);
+    }
+    match natural_of(word) {
+        Some(0) | None => Err(Misuse::Line),
+        Some(place) => Ok(LockStates::Behind(place)),
     }
 }
 
@@ -116,6 +173,84 @@ fn limit_of(word: &str) -> Result<usize, Misuse>
         Some(limit) => Ok(limit as usize),
     }
 }
+
+/// What a command line with `--explore` asks for.
+#[derive(Clone, Copy, Debug, PartialEq, Eq)]
+pub struct ExploreOptions<'a> {
+    /// How many situations may be kept, as it stands on the command line.
+    pub limit: Option<&'a str>,
+    /// The findings that are to fail, as they stand there.
+    pub fail_on: Option<&'a str>,
+    /// The finding whose run is printed alone, as it stands there.
+    pub run: Option<&'a str>,
+    /// FILE, as it stands on the command line.
+    pub file: Option<&'a str>,
+}
+
+impl ExploreOptions<'_> {
+    /// What the search is asked for.
+    pub fn exploring(self, alloc: Global) -> Result<Exploring, Fault>
+        ensures asked { MatchResult result (IsExploringOf (option_map (λ word. word.now) self.entry.limit)
+            (option_map (λ word. word.now) self.entry.run) (option_map (λ word. word.now) self.entry.fail_on))
+            (IsExploringFault (option_map (λ word. word.now) self.entry.limit)
+            (option_map (λ word. word.now) self.entry.run) (option_map (λ word. word.now) self.entry.fail_on)) }
+        ensures limit { IfOk result (λ exploring. 1 ≤ exploring.limit) }
+    {
+        Ok(Exploring {
+            limit: situation_limit(self.limit).map_err(Fault::Misuse)?,
+            printed: printed_of(self.run).map_err(Fault::Misuse)?,
+            fail_on: fail_on_of(alloc, self.fail_on)?,
+        })
+    }
+}
+
+/// How many situations may be kept, where it isn't said (this project's choice).
+const SITUATIONS: usize = 10_000_000;
+
+/// How many situations may be kept.
+fn situation_limit(word: Option<&str>) -> Result<usize, Misuse>
+    ensures { IsSituationLimit (option_map (λ word. word.now) word.entry) result }
+{
+    match word {
+        Some(word) => limit_of(word),
+        None => Ok(SITUATIONS),
+    }
+}
+
+/// What is printed of a search.
+fn printed_of(word: Option<&str>) -> Result<Printed, Misuse>
+    ensures { IsPrintedAsked (option_map (λ word. word.now) word.entry) result }
+{
+    match word {
+        Some(word) => match finding_of(word) {
+            Some(finding) => Ok(Printed::RunOf(finding)),
+            None => Err(Misuse::Run),
+        },
+        None => Ok(Printed::Table),
+    }
+}
+
+/// The findings that are to fail.
+fn fail_on_of(alloc: Global, list: Option<&str>) -> Result<Vec<Finding>, Fault>
+    ensures { AreFailures (option_map (λ list. list.now) list.entry) result }
+{
+    match list {
+        Some(list) => match findings_of(alloc, list)? {
+            Some(findings) => Ok(findings),
+            None => Err(Fault::Misuse(Misuse::FailOn)),
+        },
+        None => Ok(FAILURES.to_vec(alloc).map_err(Memory::from)?),
+    }
+}
+
+/// The findings that are to fail, where it isn't said (this project's choice).
+const FAILURES: [Finding; 5] = [
+    Finding::Deadlock,
+    Finding::Stuck,
+    Finding::Dropped,
+    Finding::Lost,
+    Finding::Unborn,
+];
 
 /// The file to open; there is none where standard input is read, which FILE names by `-` (POSIX.1-2017, Utility Syntax Guidelines).
 pub fn path_of(file: Option<&str>) -> Option<&str>

@@ -9,15 +9,22 @@ pub returns-clause-file : goal.returns-clause-file
 returns-clause-file c =
     let app = app_of c.in_ok-command.field-0 in
     let is : app ≡ history_line = search rules in
-    c.get_str-2.ensures
+    c.get_str-3.ensures
     ∙ value_found history_line refl (codes "file") app (map string_bytes c.args.words.now) c.in_ok-matches.matches is c.in_ok-matches.ensures.matches
 
 pub returns-clause-limit : goal.returns-clause-limit
 returns-clause-limit c =
     let app = app_of c.in_ok-command.field-0 in
     let is : app ≡ history_line = search rules in
-    c.get_str.ensures
+    c.get_str-2.ensures
     ∙ value_found history_line refl (codes "limit") app (map string_bytes c.args.words.now) c.in_ok-matches.matches is c.in_ok-matches.ensures.matches
+
+pub returns-clause-state : goal.returns-clause-state
+returns-clause-state c =
+    let app = app_of c.in_ok-command.field-0 in
+    let is : app ≡ history_line = search rules in
+    c.get_str.ensures
+    ∙ value_found history_line refl (codes "state") app (map string_bytes c.args.words.now) c.in_ok-matches.matches is c.in_ok-matches.ensures.matches
 
 pub returns-clause-open_waits : goal.returns-clause-open_waits
 returns-clause-open_waits c =
@@ -34,6 +41,14 @@ returns-clause-runs c =
     subst (λ text. IsGiven text c.get_flag-2.result)
     (flag_found history_line refl (codes "runs") app (map string_bytes c.args.words.now) c.in_ok-matches.matches is c.in_ok-matches.ensures.matches)
     (flag_read (one_text (found_of c.in_ok-matches.matches) (codes "runs")) c.get_flag-2.result c.get_flag-2.ensures.none c.get_flag-2.ensures.value c.get_flag-2.ensures.other)
+
+pub returns-clause-order : goal.returns-clause-order
+returns-clause-order c =
+    let app = app_of c.in_ok-command.field-0 in
+    let is : app ≡ history_line = search rules in
+    subst (λ text. IsGiven text c.get_flag-3.result)
+    (flag_found history_line refl (codes "order") app (map string_bytes c.args.words.now) c.in_ok-matches.matches is c.in_ok-matches.ensures.matches)
+    (flag_read (one_text (found_of c.in_ok-matches.matches) (codes "order")) c.get_flag-3.result c.get_flag-3.ensures.none c.get_flag-3.ensures.value c.get_flag-3.ensures.other)
 
 pub returns-clause-kind : goal.returns-clause-kind
 returns-clause-kind c =
