@@ -3,10 +3,10 @@
 from __future__ import annotations
 
 from dataclasses import dataclass, field
-from typing import Callable, Iterator, Optional
+from typing import Iterator, Optional
 
 from tracing.follow import Assumptions, Followed, Follower, Request
-from tracing.history import CannotJudge, Event, Judged, Outside, Places, Written, left_unjudged, ordered, places_in, write
+from tracing.history import Event, Judged, Outside, Places, Program, Written, left_unjudged, write
 from tracing.log import Log
 
 # The owners of outsiders stand behind those of the log.
@@ -33,9 +33,9 @@ class Explained:
     with_unanswered: bool = False
     outsiders: list[Outside] = field(default_factory=list)
 
-    def again(self, judge: Callable[[Written], Judged], places: Places) -> Judged:
+    def again(self, program: Program, places: Places) -> Judged:
         """What comes of the same with some calls at other places."""
-        return judge(write(self.found, self.with_unanswered, self.outsiders, places))
+        return program.judge(write(self.found, self.with_unanswered, self.outsiders, places))
 
 
 @dataclass
@@ -57,16 +57,14 @@ class State:
 class Explainer:
     """Looks for an order that gives every answer of a log."""
 
-    def __init__(self, log: Log, judge: Callable[[Written], Judged]) -> None:
-        self.log, self.judge = log, judge
+    def __init__(self, log: Log, program: Program) -> None:
+        self.log, self.program = log, program
 
     def explain(self) -> Explained:
-        """The log explained, with an order of its effects that the program finds legal. Raises CannotJudge where there is none such."""
+        """The log explained, with an order of its effects as the program tells it. Raises CannotJudge where it tells nothing."""
         explained = self.assumed()
         if explained.impossible is None:
-            explained.judged = ordered(explained.written)
-            if explained.again(self.judge, places_in(explained.judged, explained.found)).illegal is not None:
-                raise CannotJudge("the order that was found isn't legal")
+            explained.judged = self.program.order(explained.written)
         return explained
 
     def assumed(self) -> Explained:
@@ -87,7 +85,7 @@ class Explainer:
         by_line = {request.call.line: request for request in found.requests}
         outsiders = [Outside(by_line[line], FIRST_OUTSIDER + at, mode, span) for at, (line, mode, span) in enumerate(state.outsiders)]
         written = write(found, state.with_unanswered, outsiders)
-        judged = self.judge(written)
+        judged = self.program.judge(written)
         impossible = event_at(written, judged.illegal) if judged.illegal is not None else None
         return Explained(found, written, judged, state.told, impossible, state.with_unanswered, outsiders)
 

@@ -63,7 +63,7 @@ def note_either_order(explained: Explained, lines: list[Line], teller: Teller, p
     """Says of two overlapping calls that the other order is legal, too."""
     by_event = {id(line.event): line for line in lines if not line.request.startswith("lets go")}
     for one, other in list(overlapping(explained.judged))[:MOST_PAIRS]:
-        if explained.again(program.judge, turned_round(one, other)).illegal is None:
+        if explained.again(program, turned_round(one, other)).illegal is None:
             by_event[id(other)].notes.append(f"{teller.name(one)} and {teller.name(other)} in either order")
 
 
@@ -117,7 +117,7 @@ def print_impossible(explained: Explained, teller: Teller) -> None:
 def explained_of(options: argparse.Namespace, program: Program) -> Explained:
     """The log explained. Raises NotALog where it has no lock call."""
     log = log_of_script(options.log, Lockreplay(program.path)) if options.script else read_log(options.log)
-    explained = Explainer(log, program.judge).explain()
+    explained = Explainer(log, program).explain()
     if not explained.found.requests:
         raise NotALog(f"{options.log} has no lock call: was strace told to trace fcntl and flock?")
     return explained

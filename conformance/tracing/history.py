@@ -9,12 +9,12 @@ from pathlib import Path
 from typing import Optional, Union
 
 from tracing.follow import Followed, Release, Request
-from tracing.order import order_of
 
 Event = Union[Request, Release]
 # Other places of the begin and the end of an event, by its identity.
 Places = dict[int, tuple[float, Optional[float]]]
 IMPOSSIBLE = re.compile(r"^line (\d+): (.*) isn't possible$")
+EFFECT = re.compile(r"^(\d+) (lets go )?behind (\d+)$")
 ILLEGAL = 3
 LIMIT = 2**63 - 1
 
@@ -145,9 +145,17 @@ class Program:
         self.path = path
 
     def judge(self, written: Written) -> Judged:
+        """Whether the program finds a history legal. Raises CannotJudge."""
+        return self.told(written)
+
+    def order(self, written: Written) -> Judged:
+        """The same with an order of a legal history's effects, and the locks behind each. Raises CannotJudge."""
+        return self.told(written, "--order", "--state", "all")
+
+    def told(self, written: Written, *flags: str) -> Judged:
         """What the program says of a history. Raises CannotJudge."""
         text = "".join(f"{line}\n" for line in written.lines)
-        command = [str(self.path), "--history", "--limit", str(LIMIT)]
+        command = [str(self.path), "--history", "--limit", str(LIMIT), *flags]
         try:
             ended = subprocess.run(command, input=text.encode(), stdout=subprocess.PIPE, stderr=subprocess.PIPE, check=False)
         except OSError as failed:
@@ -156,7 +164,7 @@ class Program:
             return refused(ended.stdout.decode())
         if ended.returncode != 0:
             raise CannotJudge(ended.stderr.decode(errors="replace").strip() or f"{self.path} ended with status {ended.returncode}")
-        return Judged()
+        return ordered(written, ended.stdout.decode())
 
 
 def refused(text: str) -> Judged:
@@ -168,21 +176,15 @@ def refused(text: str) -> Judged:
     return Judged(illegal=int(found[1]), open_there=[line for line in lines[1:] if line.startswith("#")])
 
 
-def ordered(written: Written) -> Judged:
-    """A legal history with an order of its effects, and the locks behind each."""
+def ordered(written: Written, text: str) -> Judged:
+    """A legal history with the order of its effects that is told, and the locks behind each."""
     judged = Judged()
-    for moment in order_of("".join(f"{line}\n" for line in written.lines)):
-        event = written.by_number.get(int(moment.identity))
-        judged.effects.append(Effect(event, moment.is_loss, moment.behind))
-        judged.states[len(judged.effects)] = list(moment.locks)
+    for line in text.splitlines():
+        if line.startswith("# "):
+            judged.states.setdefault(len(judged.effects), []).append(line[2:])
+            continue
+        found = EFFECT.match(line)
+        if not found:
+            raise CannotJudge(f"lockreplay says: {line}")
+        judged.effects.append(Effect(written.by_number.get(int(found[1])), found[2] is not None, int(found[3])))
     return judged
-
-
-def places_in(judged: Judged, found: Followed) -> Places:
-    """The places by which each request is open for its own effects alone, in their order. One without an effect stands behind all."""
-    places: Places = {id(it): (len(judged.effects) + 1, len(judged.effects) + 1) for it in (*found.requests, *found.releases)}
-    for place, effect in enumerate(judged.effects, 1):
-        if effect.event is not None:
-            begin = places[id(effect.event)][0]
-            places[id(effect.event)] = (min(begin, place), place + 0.5)
-    return places

@@ -1,7 +1,6 @@
 """What the open requests of a history may do next: the rules of a file's locks, small and slow, beside those of lockreplay.
 
-An answer is known beforehand, so only effects that go with it are followed. Who judges by these is a second opinion, or has lockreplay judge
-what comes of them.
+An answer is known beforehand, so only effects that go with it are followed. Who judges by these is a second opinion.
 """
 
 from __future__ import annotations
