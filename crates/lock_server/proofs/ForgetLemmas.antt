@@ -1,4 +1,4 @@
--- An owner that is forgotten, on one file and then on all: for `dismiss` and `forget`.
+-- An owner that is forgotten, on one file and then on all: for `Table::dismiss` and `LockServer::forget`.
 use Rattle.std.proofs.Common.{rules, ℕ, ◌≡◌, ◌≢◌, ◌+◌, ◌<◌, ◌≤◌, ◌∙◌, inl, inr, sym, ap, refl, subst, arith, cond, not, Bool, false, Option, Some, None, List, [], ◌∷◌, ◌++◌, All, Contains, length, length-append}
 use Rattle.std.proofs.lemmas.Grind.{common_steps}
 use Rattle.std.specs.Prelude.{IsTrue, AllPairs, MatchOption, filter}
@@ -9,11 +9,11 @@ use Rattle.wait_core.specs.declared.Family.TheVariants.{Bytes}
 use Rattle.wait_core.specs.declared.Policy.{Policy}
 use Rattle.lock_server.specs.declared.Pending.{Pending}
 use Rattle.lock_server.specs.Calls.{DismissesOn, Forgets, ForgetsIn, ForgetsOn, IsStrangerOn, ReleasesOn, is_other_wait}
-use Rattle.lock_server.specs.Files.{FileState, SameFile, SameLocks, untouched}
+use Rattle.lock_server.specs.Files.{FileState, SameFile, SameLocks}
 use Rattle.lock_server.specs.Pendings.{is_byte_wait}
 use Rattle.lock_server.specs.States.{ChangesFile, Crosses, HasDetected, SameState, SettlesFile, State}
 use Rattle.lock_server.proofs.SettleLemmas.{crosses_then, detected_before}
-use Rattle.lock_server.proofs.StateLemmas.{SameFile-itself, SameFile-then, state_from_same}
+use Rattle.lock_server.proofs.StateLemmas.{file_from_same, SameFile-itself, SameFile-then, state_from_same}
 
 -- some of these waits have left the file, and all locks stay
 pub record IsDismissing (S : State) (file : ℕ) (is_one : Pending → Bool) (T : State) : Type 0 where
@@ -84,15 +84,9 @@ pub record IsForgetting (policy : Policy) (S : State) (owner next : ℕ) (T : St
   pub later : (file : ℕ) → next ≤ file → SameFile (S.files file) (T.files file)
   pub forgets : ForgetsIn policy done S owner T
 
--- an untouched file knows no owner
-stranger : (F : FileState) (owner : ℕ) → SameFile untouched F → IsStrangerOn F owner
-stranger F owner same = grind (arith, common_steps, All-nil)
-
-SameFile-back : (F G : FileState) → SameFile F G → SameFile G F
-SameFile-back F G same = grind (arith, common_steps)
-
-stranger_still : (F G : FileState) (owner : ℕ) → SameFile F G → SameFile untouched G → IsStrangerOn F owner
-stranger_still F G owner same none = stranger F owner (SameFile-then untouched G F none (SameFile-back F G same))
+-- a stranger is one where the file stays
+stranger_still : (F G : FileState) (owner : ℕ) → SameFile F G → IsStrangerOn G owner → IsStrangerOn F owner
+stranger_still F G owner same stranger = subst (λ (H : FileState). IsStrangerOn H owner) (file_from_same F G same) stranger
 
 -- at first no file is looked at
 pub forgetting_none : (policy : Policy) (S : State) (owner : ℕ) → IsForgetting policy S owner 0 S
@@ -106,10 +100,10 @@ forgets_more policy [] S owner file M between after T same forgets settles still
 forgets_more policy (first ∷ files) S owner file M between after T (b, n, here, settled, rest) forgets settles still =
     (b, n, here, settled, forgets_more policy files n owner file M between after T rest forgets settles still)
 
--- the next file that is not untouched
+-- the next file on which it is no stranger
 pub forgetting_more : (policy : Policy) (S : State) (owner next : ℕ) (M : State) (file : ℕ) (between after T : State)
     → IsForgetting policy S owner next M → next ≤ file
-    → ((other : ℕ) → next ≤ other → other < file → SameFile untouched (M.files other)) → ForgetsOn M file owner between
+    → ((other : ℕ) → next ≤ other → other < file → IsStrangerOn (M.files other) owner) → ForgetsOn M file owner between
     → SettlesFile policy between file after → SameState after T
     → IsForgetting policy S owner (file + 1) T
 forgetting_more policy S owner next M file between after T so_far from least forgets settles still = record {
@@ -131,9 +125,9 @@ forgetting_more policy S owner next M file between after T so_far from least for
   forgets = forgets_more policy so_far.done S owner file M between after T so_far.forgets forgets settles still;
 }
 
--- from here on all files are untouched
+-- from here on it is one on all files
 pub all_forgotten : (policy : Policy) (S : State) (owner next : ℕ) (T : State) → IsForgetting policy S owner next T
-    → ((file : ℕ) → next ≤ file → SameFile untouched (T.files file)) → Forgets policy S owner T
+    → ((file : ℕ) → next ≤ file → IsStrangerOn (T.files file) owner) → Forgets policy S owner T
 all_forgotten policy S owner next T so_far none = record {
   files = so_far.done;
   rising = so_far.rising;

@@ -1,5 +1,8 @@
 pub mod TicketLemmas
 pub mod ListLemmas
+pub mod PairLemmas
+pub mod HoldingLemmas
+pub mod CollectedLemmas
 pub mod LeaveLemmas
 pub mod NumberLemmas
 pub mod RoomLemmas
@@ -29,7 +32,6 @@ pub mod LookedLemmas
 pub mod ReadyLemmas
 pub mod HavingLemmas
 pub mod ForgetLemmas
-pub mod SafeForgetLemmas
 pub mod FlockLemmas
 pub mod FlockOwnerLemmas
 pub mod ListedLemmas

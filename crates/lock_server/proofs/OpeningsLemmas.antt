@@ -1,14 +1,12 @@
 -- Owners that are forgotten on all files, one after another: for the openings' `forget_owners`.
 use Rattle.std.proofs.lemmas.Grind.{common_steps}
 use Rattle.std.proofs.Common.{ℕ, ◌≡◌, ◌≢◌, ◌+◌, ◌<◌, ◌≤◌, ◌∙◌, inl, inr, sym, ap, subst, refl, arith, cond, true, false, Bool, Option, Some, None, List, [], ◌∷◌, length}
-use Rattle.std.specs.Prelude.{◌&&◌, if◌then◌else◌, nat_le}
+use Rattle.std.specs.Prelude.{if◌then◌else◌}
 use Rattle.std.specs.BTreeMap.{BTreeMap, get, is_at}
 use Rattle.std.specs.Map.{lookup}
 use Rattle.std.specs.Ordering.{nat_cmp}
 use Rattle.std.proofs.lemmas.Bool.{cases_eq, cases_lt}
-use Rattle.std.proofs.lemmas.Bool.Decides.{nat_tests}
-use Rattle.lock_server.specs.Clients.{ForgetsSeen, is_within}
-use Rattle.lock_server.specs.Openings.{ForgetsOwner}
+use Rattle.lock_server.specs.Clients.{ForgetsSeen}
 use Rattle.lock_server.specs.OpeningsView.{ForgetsSeenOf}
 
 -- on the files below this one these owners are seen no more
@@ -53,26 +51,6 @@ all_unseen was gone next now so_far none = record {
         (let known = so_far.later file owner past in
         known ∙ none_unseen (gone owner) (was file owner) (sym known ∙ none file owner past))
   ];
-}
-
-within_one : (owner : ℕ) → is_within owner owner owner ≡ true
-within_one owner = grind (arith, nat_tests)
-
-without_one : (owner other : ℕ) → other ≢ owner → is_within owner owner other ≡ false
-without_one owner other differs = elim (cases_lt other owner) [
-  | inl below ↦ (let no : nat_le owner other ≡ false = grind (arith, nat_tests) in ap (λ (t : Bool). t && nat_le other owner) no)
-  | inr past ↦ (let no : nat_le other owner ≡ false = grind (arith, nat_tests, differs, past) in ap (λ (t : Bool). nat_le owner other && t) no ∙ and_no (nat_le owner other))
-]
-  where
-    and_no : (t : Bool) → (t && false) ≡ false
-    and_no true = refl
-    and_no false = refl
-
--- just one owner is seen no more
-pub one_unseen : (was now : ℕ → ℕ → Option ℕ) (owner : ℕ) → ForgetsSeen was now (is_within owner owner) → ForgetsOwner was now owner
-one_unseen was now owner forgets = record {
-  none = λ file. forgets.through file owner ∙ ap (λ (t : Bool). if t then None else was file owner) (within_one owner);
-  others = λ file other differs. forgets.through file other ∙ ap (λ (t : Bool). if t then None else was file other) (without_one owner other differs);
 }
 
 -- in a map without a pair no key has a value

@@ -8,16 +8,20 @@ use Rattle.lock_server.specs.Deadlock.{IsFreeOfCycles}
 use Rattle.lock_server.specs.Files.{FileState, SameFile, untouched}
 use Rattle.lock_server.specs.Pendings.{owners_of}
 use Rattle.lock_server.specs.Safety.{AreTicketsOnce, IsCompatible, IsSafe}
-use Rattle.lock_server.specs.Settling.{IsSettled}
+use Rattle.lock_server.specs.Settling.{IsSettled, Settles}
 use Rattle.lock_server.specs.States.{SettlesFile, State}
 use Rattle.lock_server.proofs.CompatibleLemmas.{still_held}
-use Rattle.lock_server.proofs.SafeForgetLemmas.{settled_end}
 use Rattle.lock_server.proofs.SafeLemmas.{MovesFile, all_move_free, fewer_move, moves_free, moves_settled, safe_but, safe_moved, safe_with}
 use Rattle.lock_server.proofs.StateLemmas.{SameFile-then, file_from_same, state_from_same}
 use Rattle.lock_server.proofs.StepLemmas.{filtered_within, IsWithin}
 
+-- settling ends in a settled file
+settled_end : (policy : Policy) (F : FileState) (granted : List Pending) (G : FileState) → Settles policy F granted G → IsSettled policy G
+settled_end policy F [] G settles = subst (λ (H : FileState). IsSettled policy H) (sym (file_from_same F G settles.1)) settles.0
+settled_end policy F (wait ∷ granted) G settles = settled_end policy settles.0 granted G settles.2
+
 -- owners that lose what they have on a file move nothing
-strips_move : (F : FileState) (gone : ℕ → Bool) (G : FileState) → StripsFile F gone G → MovesFile [] F G
+pub strips_move : (F : FileState) (gone : ℕ → Bool) (G : FileState) → StripsFile F gone G → MovesFile [] F G
 strips_move F gone G strips =
     fewer_move [] F G (record {
       bytes = λ owner byte mode is. still_held (gone owner) (F.bytes owner byte) mode (sym (strips.locks.bytes owner byte) ∙ is);

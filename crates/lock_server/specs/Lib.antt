@@ -30,6 +30,8 @@ pub mod Bytes
 pub mod TableView
 pub mod TableRoom
 pub mod OpeningsView
+pub mod Holding
+pub mod HoldingsView
 pub mod ServerView
 pub mod Queueing
 pub mod Agreement

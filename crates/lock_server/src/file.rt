@@ -14,6 +14,7 @@ mod export;
 mod flocks;
 mod granting;
 pub(crate) mod having;
+mod holding;
 mod list;
 mod listing;
 

@@ -99,7 +99,7 @@ pub struct Openings {
 
 #[tactic(auto, unfolding(crate::specs::OpeningsView::open_of, crate::specs::OpeningsView::through_at))]
 impl Openings {
-    ghost use Rattle.lock_server.specs.Openings.{ForgetsOwner, is_number, SameOpenings, SeesOn};
+    ghost use Rattle.lock_server.specs.Openings.{is_number, SameOpenings, SeesOn};
     ghost use Rattle.lock_server.specs.OpeningsView.{ForgetsSeenOf, HasSeen, IsAbove, through_at};
 
     /// No owner. It takes no memory.
@@ -146,13 +146,6 @@ impl Openings {
         self.sweep(file);
     }
 
-    /// The owner isn't known any more on any file. It takes no memory, and looks at each file where some owner is known.
-    pub fn forget_owner(&mut self, owner: u64)
-        ensures { ForgetsOwner (through_at self.old) (through_at self.new) owner }
-    {
-        self.forget_owners(Owners::one(owner));
-    }
-
     /// The owners aren't known any more on any file. It takes no memory, and looks at each file where some owner is known.
     pub fn forget_owners(&mut self, owners: Owners)
         ensures { ForgetsSeen (through_at self.old) (through_at self.new) (is_within owners.first owners.last) }
@@ -183,7 +176,7 @@ impl Openings {
     }
 
     /// The open file through which the owner was last seen on the file.
-    fn through(&self, file: u64, owner: u64) -> Option<u64>
+    pub fn through(&self, file: u64, owner: u64) -> Option<u64>
         ensures { result ≡ through_at self.now file owner }
     {
         self.files.get(&file)?.through(owner)
@@ -209,7 +202,7 @@ impl Openings {
     }
 
     /// The least file on which an owner is known, above this one where one is given.
-    fn next_file(&self, above: Option<u64>) -> Option<u64>
+    pub fn next_file(&self, above: Option<u64>) -> Option<u64>
         ensures above { IfSome result (λ file. IsAbove above file) }
         ensures least { IfSome result (λ file. (other owner : ℕ) → IsAbove above other → other < file → through_at self.now other owner ≡ None) }
         ensures none { IfNone result ((file owner : ℕ) → IsAbove above file → through_at self.now file owner ≡ None) }

@@ -11,17 +11,6 @@ pub struct Owners {
 }
 
 impl Owners {
-    /// Just this owner.
-    pub fn one(owner: u64) -> Owners
-        ensures first { result.first ≡ owner }
-        ensures last { result.last ≡ owner }
-    {
-        Owners {
-            first: owner,
-            last: owner,
-        }
-    }
-
     /// Whether the owner is among them.
     pub fn contains(self, owner: u64) -> bool
         ensures { result ≡ is_within self.first self.last owner }

@@ -1,14 +1,18 @@
 //! The lock server: each call is a change of the table, and then a settling of the file that changed.
 ghost use Rattle.std.specs.Prelude.{◌≡◌};
 ghost use Rattle.lock_server.specs.Calls.{byte_request as byte_request_of, flock_request as flock_request_of};
+ghost use Rattle.lock_server.specs.HoldingsView.{AreKept};
+ghost use Rattle.lock_server.specs.OpeningsView.{through_at};
 ghost use Rattle.lock_server.specs.Safety.{IsSafe};
 ghost use Rattle.lock_server.specs.TableView.{AreSwept, table_state, table_policy};
 
 mod clients;
 mod export;
+mod forgetting;
 mod import;
 mod listing;
 
+use crate::holdings::Holdings;
 use crate::openings::Openings;
 use crate::requests::{NO_TICKET, byte_request, flock_request};
 use crate::table::Table;
@@ -24,21 +28,23 @@ use std::alloc::Global;
 pub struct LockServer {
     table: Table,
     openings: Openings,
+    holdings: Holdings,
     conversion: Conversion,
     ghost safe: { ∥ IsSafe (table_policy table) (table_state table) ∥₁ },
     ghost swept: { AreSwept table },
+    ghost kept: { AreKept holdings (table_state table) (through_at openings) },
 }
 
 #[tactic(auto, unfolding(crate::specs::ServerView::state_of, crate::specs::ServerView::rules_of, crate::specs::ServerView::through_of, crate::specs::ServerView::KeepsFile))]
 impl LockServer {
     ghost use Rattle.std.specs.Prelude.{◌↔◌, ℕ, IfOk, IfSome, IfNone, IsOk, IsTrue, OnErr, OnOk, Some, None, false};
     ghost use Rattle.range_core.specs.Ranges.{IsByteRange, SplitsRun};
-    ghost use Rattle.lock_server.specs.Calls.{CancelComesTo, FetchComesTo, FlockOpComesTo, FlockWaitComesTo, Forgets, IsRefused};
+    ghost use Rattle.lock_server.specs.Calls.{CancelComesTo, FetchComesTo, FlockOpComesTo, FlockWaitComesTo, IsRefused};
     ghost use Rattle.lock_server.specs.Calls.{IsSetHeldBack, Releases, SetComesTo, WaitComesTo};
     ghost use Rattle.lock_server.specs.Closing.{Closes};
     ghost use Rattle.lock_server.specs.Files.{SameFile, untouched};
     ghost use Rattle.lock_server.specs.Locks.{IsFirstLock, IsInTheWay};
-    ghost use Rattle.lock_server.specs.Openings.{ForgetsOwner, ForgetsThrough, SameOpenings, SeesOn};
+    ghost use Rattle.lock_server.specs.Openings.{ForgetsThrough, SameOpenings, SeesOn};
     ghost use Rattle.lock_server.specs.ServerView.{KeepsFile, rules_of, state_of, through_of};
     ghost use Rattle.lock_server.specs.States.{IsTaken, opening, SameState};
 
@@ -51,6 +57,7 @@ impl LockServer {
         LockServer {
             table: Table::new(alloc, rules.policy),
             openings: Openings::new(alloc),
+            holdings: Holdings::new(alloc),
             conversion: rules.conversion,
         }
     }
@@ -88,9 +95,11 @@ impl LockServer {
         if self.is_held_back(file, owner, span, mode) {
             return Ok(Answer::Blocked);
         }
-        self.table.set(file, owner, span, mode)?;
+        self.holdings
+            .set(&mut self.table, &self.openings, file, owner, span, mode)?;
         self.table.settle(file);
         self.table.sweep(file);
+        self.holdings.tidy(&self.table, &self.openings, owner, file);
         Ok(Answer::Done)
     }
 
@@ -122,14 +131,22 @@ impl LockServer {
         }
         let wanted = byte_request(ticket, owner, span, mode, detect);
         if !self.table.blocks(file, &wanted) {
-            self.table.set(file, owner, span, Some(mode))?;
+            self.holdings.set(
+                &mut self.table,
+                &self.openings,
+                file,
+                owner,
+                span,
+                Some(mode),
+            )?;
             self.table.settle(file);
             return Ok(WaitAnswer::Done);
         }
         if self.closes_cycle(file, &wanted)? {
             return Ok(WaitAnswer::Deadlock);
         }
-        self.table.reserve(file, &wanted)?;
+        self.holdings
+            .reserve(&mut self.table, &self.openings, file, &wanted)?;
         self.table.join(file, wanted);
         Ok(WaitAnswer::Waits)
     }
@@ -142,9 +159,10 @@ impl LockServer {
         ensures openings { SameOpenings (through_of self.old) (through_of self.new) }
     {
         match self.table.cancel(ticket) {
-            Some(file) => {
+            Some((file, owner)) => {
                 self.table.settle(file);
                 self.table.sweep(file);
+                self.holdings.tidy(&self.table, &self.openings, owner, file);
                 true
             }
             None => false,
@@ -161,7 +179,14 @@ impl LockServer {
         ensures same { SameState (state_of self.old) (state_of self.new) }
         ensures rules { rules_of self.new ≡ rules_of self.old }
     {
-        self.openings.note(file, owner, open_file)
+        self.holdings.enter(owner, file)?;
+        match self.openings.note(file, owner, open_file) {
+            Ok(()) => Ok(()),
+            Err(memory) => {
+                self.holdings.tidy(&self.table, &self.openings, owner, file);
+                Err(memory)
+            }
+        }
     }
 
     /// Removes all byte locks of the owner on the file; its waits stay (POSIX.1-2017 close; FUSE, flush). It takes no memory.
@@ -175,17 +200,7 @@ impl LockServer {
         self.table.settle(file);
         self.table.sweep(file);
         self.openings.forget(file, owner);
-    }
-
-    /// Removes all byte locks of the owner on all files, and its waits for byte locks, the files rising (POSIX.1-2017 _Exit). It
-    /// takes no memory, and looks at each file that has a lock or a wait.
-    pub fn forget(&mut self, owner: u64)
-        ensures forgets { Forgets (rules_of self.old).policy (state_of self.old) owner (state_of self.new) }
-        ensures rules { rules_of self.new ≡ rules_of self.old }
-        ensures openings { ForgetsOwner (through_of self.old) (through_of self.new) owner }
-    {
-        self.table.forget(owner);
-        self.openings.forget_owner(owner);
+        self.holdings.tidy(&self.table, &self.openings, owner, file);
     }
 
     /// Sets or removes the flock lock of the owner on the file; `Blocked` where another owner's lock is in the way. A conversion, to
@@ -209,9 +224,12 @@ impl LockServer {
         if held == Some(mode) {
             return Ok(Answer::Done);
         }
-        self.table.place_flock(file, owner)?;
+        self.holdings
+            .place_flock(&mut self.table, &self.openings, file, owner)?;
         let conversion = self.conversion;
-        Ok(converting::flock(&mut self.table, conversion, file, owner, held, mode))
+        let answer = converting::flock(&mut self.table, conversion, file, owner, held, mode);
+        self.holdings.tidy(&self.table, &self.openings, owner, file);
+        Ok(answer)
     }
 
     /// The same as `flock` of a mode, but that the request waits where it is blocked; no deadlock is looked for (flock(2)).
@@ -240,7 +258,8 @@ impl LockServer {
             return Ok(WaitAnswer::Done);
         }
         let wanted = flock_request(ticket, owner, mode);
-        self.table.reserve(file, &wanted)?;
+        self.holdings
+            .reserve(&mut self.table, &self.openings, file, &wanted)?;
         let conversion = self.conversion;
         Ok(converting::flock_wait(&mut self.table, conversion, file, held, wanted))
     }
@@ -256,6 +275,7 @@ impl LockServer {
         self.table.release_flock(file, owner);
         self.table.settle(file);
         self.table.sweep(file);
+        self.holdings.tidy(&self.table, &self.openings, owner, file);
     }
 
     /// Removes all byte locks on the file of the owners that were last seen through the open file ([`LockServer::note`]) and not
@@ -269,9 +289,17 @@ impl LockServer {
         ensures openings { ForgetsThrough (through_of self.old) (through_of self.new) file open_file }
     {
         self.table.release_flock_of(file, flock_owner);
-        closing::close(&mut self.table, &mut self.openings, file, open_file);
+        closing::close(
+            &mut self.table,
+            &mut self.openings,
+            &mut self.holdings,
+            file,
+            open_file,
+        );
         self.table.settle(file);
         self.table.sweep(file);
+        self.holdings
+            .tidy_of(&self.table, &self.openings, flock_owner, file);
     }
 
     /// The ticket of the oldest grant that wasn't fetched, which is told once; `None` where there is none. It takes no memory.

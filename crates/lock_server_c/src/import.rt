@@ -1,6 +1,7 @@
 //! A server from the bytes of an export.
 ghost use Rattle.std.specs.Prelude.{◌≡◌, ◌≢◌, None};
 ghost use Rattle.lock_server.specs.Exports.{IsExportOf};
+ghost use Rattle.lock_server.specs.declared.server.LockServer.{LockServer};
 ghost use Rattle.lock_server_c.specs.Owned.{Has};
 ghost use Rattle.lock_server_c.specs.declared.status.TheConstants.{DONE, INVALID};
 
@@ -31,6 +32,7 @@ pub extern "C" fn dehokuna_import(
     requires { handle.old.server ≡ None }
     ensures done { result ≡ DONE → Has handle.new.server (λ server. IsExportOf server bytes.now) }
     ensures none { result ≢ DONE → handle.new.server ≡ None }
+    ensures invalid { result ≡ INVALID → (server : LockServer) → ¬ IsExportOf server bytes.now }
     ensures as_it_was { result ≢ INVALID → fault.new ≡ fault.old }
 {
     let server = match LockServer::import(alloc, bytes) {

@@ -27,6 +27,7 @@ impl LockServer {
         let owners = Owners { first, last };
         self.table.forget_owners(owners);
         self.openings.forget_owners(owners);
+        self.holdings.leave_all(owners);
     }
 
     /// A file is gone, and its number may be used again: its locks and waits go, and what was noted of its owners there
@@ -40,6 +41,7 @@ impl LockServer {
         ensures rules { rules_of self.new ≡ rules_of self.old }
         ensures openings { ForgetsSeenOn (through_of self.old) (through_of self.new) file }
     {
+        self.holdings.leave_file(&self.table, &self.openings, file);
         self.table.forget_file(file);
         self.openings.forget_file(file);
     }

@@ -3,6 +3,7 @@ ghost use Rattle.std.specs.Prelude.{◌≡◌, ◌↔◌, ◌<◌, ◌^◌, IfOk
 ghost use Rattle.lock_server.specs.Exports.{IsExportOf, IsInvalid};
 
 use super::LockServer;
+use crate::holdings::Holdings;
 use crate::import::{self, fault};
 use crate::{Flaw, ImportFault, Memory};
 use std::alloc::Global;
@@ -22,9 +23,11 @@ impl LockServer {
         parts.check_order()?;
         let table = parts.table(alloc)?;
         let openings = parts.openings(alloc)?;
+        let holdings = Holdings::of(alloc, &table, &openings)?;
         let server = LockServer {
             table,
             openings,
+            holdings,
             conversion: parts.rules.conversion,
         };
         if server.has_export(alloc, bytes)? {

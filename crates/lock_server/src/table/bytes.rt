@@ -1,13 +1,13 @@
 //! Byte locks that are asked for without waiting.
 ghost use Rattle.std.specs.Prelude.{◌≡◌, ◌↔◌, ◌<◌, ℕ, None, All, IsFalse, IsOk, IsTrue, IfSome, IfNone, OnOk, OnErr, MatchOption};
 ghost use Rattle.range_core.specs.Ranges.{IsByteRange, SplitsRun};
-ghost use Rattle.lock_server.specs.Calls.{DismissesOn, Forgets, ForgetsOn, ReleasesOn, SetsOn};
+ghost use Rattle.lock_server.specs.Calls.{DismissesOn, ForgetsOn, ReleasesOn, SetsOn};
 ghost use Rattle.lock_server.specs.Files.{SameFile, untouched};
 ghost use Rattle.lock_server.specs.Leaving.{is_leaving, is_staying};
 ghost use Rattle.lock_server.specs.Locks.{IsFirstLock, IsInTheWay};
 ghost use Rattle.lock_server.specs.Settling.{IsHeldBack};
 ghost use Rattle.lock_server.specs.States.{SameState};
-ghost use Rattle.lock_server.specs.TableView.{AreSwept, HasEntry, IsSwept, KeepsOthers, table_state, table_policy};
+ghost use Rattle.lock_server.specs.TableView.{HasEntry, IsSwept, KeepsOthers, table_state, table_policy};
 
 use super::Table;
 use crate::leaving::Leaving;
@@ -118,22 +118,6 @@ impl Table {
         self.tickets.forget(wait.ticket);
         self.waiters.end_for(&wait, file);
         true
-    }
-
-    /// Removes all byte locks of the owner on all files, and its waits for byte locks; each file is then settled, the files rising. It
-    /// takes no memory.
-    pub fn forget(&mut self, owner: u64)
-        ensures forgets { Forgets (table_policy self.old) (table_state self.old) owner (table_state self.new) }
-        ensures policy { table_policy self.new ≡ table_policy self.old }
-        ensures swept { AreSwept self.old → AreSwept self.new }
-    {
-        let mut above = None;
-        while let Some(file) = self.next_file(above) {
-            self.dismiss(file, owner);
-            self.settle(file);
-            self.sweep(file);
-            above = Some(file);
-        }
     }
 
     /// Whether a lock of another owner is in the way of the request (POSIX.1-2017 fcntl, `F_SETLK`; flock(2)).

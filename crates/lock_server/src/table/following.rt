@@ -75,7 +75,7 @@ impl Table {
     }
 
     /// The waits on the file, in order of arrival.
-    fn waits_on(&self, file: u64) -> &[Pending]
+    pub fn waits_on(&self, file: u64) -> &[Pending]
         ensures waits { result.now ≡ ((table_state self.now).files file).waits }
         ensures ranges { All (λ wait. IsByteRange wait.span) result.now }
     {

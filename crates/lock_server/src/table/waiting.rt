@@ -1,5 +1,5 @@
 //! Requests that may wait, and those that wait no more.
-ghost use Rattle.std.specs.Prelude.{◌≡◌, ◌↔◌, None, Some, IsTrue, IfSome, IfNone, OnErr, OnOk};
+ghost use Rattle.std.specs.Prelude.{◌≡◌, ◌↔◌, Any, None, Some, IsTrue, IfSome, IfNone, OnErr, OnOk};
 ghost use Rattle.range_core.specs.Ranges.{IsByteRange};
 ghost use Rattle.lock_server.specs.Calls.{LeavesOn, Suspends};
 ghost use Rattle.lock_server.specs.TableRoom.{HasRoomFor};
@@ -112,13 +112,14 @@ impl Table {
         self.tickets.forget(ticket);
     }
 
-    /// The wait with the ticket leaves its file, which is told; `None` where there is none. No wait is granted. It takes no
-    /// memory (FUSE, interrupt).
-    pub fn cancel(&mut self, ticket: u64) -> Option<u64>
-        ensures some { IfSome result (λ file. LeavesOn (table_state self.old) file ticket (table_state self.new)) }
+    /// The wait with the ticket leaves its file, which is told with whose wait it was; `None` where there is none. No wait is granted.
+    /// It takes no memory (FUSE, interrupt).
+    pub fn cancel(&mut self, ticket: u64) -> Option<(u64, u64)>
+        ensures some { IfSome result (λ found. LeavesOn (table_state self.old) found.0 ticket (table_state self.new)) }
+        ensures owner { IfSome result (λ found. Any (λ wait. (wait.ticket ≡ ticket) × (wait.owner ≡ found.1)) ((table_state self.old).files found.0).waits) }
         ensures none { IfNone result ((¬ IsPending (table_state self.old) ticket) × SameState (table_state self.old) (table_state self.new)) }
         ensures policy { table_policy self.new ≡ table_policy self.old }
-        ensures others { IfSome result (λ file. KeepsOthers self.old self.new file) }
+        ensures others { IfSome result (λ found. KeepsOthers self.old self.new found.0) }
         ensures entries { IfNone result (KeepsEntries self.old self.new) }
     {
         let Some(place) = self.tickets.place(ticket) else {
@@ -132,6 +133,6 @@ impl Table {
         let wait = locks.cancel(ticket).unwrap();
         self.tickets.forget(wait.ticket);
         self.waiters.end_for(&wait, file);
-        Some(file)
+        Some((file, wait.owner))
     }
 }

@@ -1,4 +1,5 @@
 use Rattle.std.proofs.Common.{◌≡◌, ◌-◌, ◌^◌}
+use Rattle.lock_server.specs.HoldingsView.{AreKept}
 use Rattle.lock_server.specs.OpeningsView.{through_at}
 use Rattle.lock_server.specs.TableView.{KeepsOthers, table_policy, table_state}
 use Rattle.lock_server.proofs.ClosingLemmas.{IsClosing}
@@ -11,6 +12,7 @@ invariant-loop-owner l = record {
       (through_at l.openings);
   policy : table_policy l.table ≡ table_policy l.initial.table;
   others : KeepsOthers l.initial.table l.table l.file;
+  kept : AreKept l.initial.holdings (table_state l.initial.table) (through_at l.initial.openings) → AreKept l.holdings (table_state l.table) (through_at l.openings);
 }
 
 -- each owner is above the one before

@@ -1,6 +1,8 @@
 use Rattle.std.proofs.Common.{◌∙◌, inl, refl, []}
+use Rattle.lock_server.specs.OpeningsView.{through_at}
 use Rattle.lock_server.specs.ServerView.{rules_of, state_of}
 use Rattle.lock_server.specs.TableView.{table_policy, table_state}
+use Rattle.lock_server.proofs.HoldingLemmas.{kept_moved, kept_rested, kept_same, kept_tidied}
 use Rattle.lock_server.proofs.SafeLemmas.{moves_left}
 use Rattle.lock_server.proofs.ServerLemmas.{rests, safe_rested, swept}
 use Rattle.lock_server.proofs.SweptLemmas.{all_swept, all_swept_but}
@@ -9,9 +11,15 @@ use Rattle.lock_server.proofs.server.LockServer.cancel.Goals as goal
 pub invariant_of-self-in-None-clause-swept : goal.invariant_of-self-in-None-clause-swept
 invariant_of-self-in-None-clause-swept c = all_swept c.args.self.now.table c.cancel.new.self c.in-None.ensures.entries c.args.self.now.swept
 
+pub invariant_of-self-in-None-clause-kept : goal.invariant_of-self-in-None-clause-kept
+invariant_of-self-in-None-clause-kept c =
+    kept_same c.args.self.now.holdings (through_at c.args.self.now.openings) (table_state c.args.self.now.table) (table_state c.cancel.new.self) c.in-None.ensures.none.1
+    c.args.self.now.kept
+
 pub invariant_of-self : goal.invariant_of-self
 invariant_of-self c =
     let table = c.args.self.now.table in
+    let through = through_at c.args.self.now.openings in
     let file = c.in-Some.file in
     let rest = swept (table_policy table) (table_state c.cancel.new.self) file (table_state c.settle.new.self) (table_state c.sweep.new.self)
     (rests (table_policy table) c.cancel.new.self c.settle.new.self file c.cancel.ensures.policy c.settle.ensures.policy c.settle.ensures.settles c.settle.ensures.settled)
@@ -22,6 +30,10 @@ invariant_of-self c =
       swept = all_swept_but table c.sweep.new.self file
           (λ other differs. c.sweep.ensures.others other differs ∙ c.settle.ensures.others other differs ∙ c.in-Some.ensures.others other differs)
           c.sweep.ensures.gone c.args.self.now.swept;
+      kept = kept_tidied c.args.self.now.holdings c.tidy.new.self (table_state c.sweep.new.self) through c.in-Some.owner file c.tidy.ensures
+          (kept_rested c.args.self.now.holdings through (table_policy table) (table_state c.cancel.new.self) file (table_state c.sweep.new.self) rest
+          (kept_moved c.args.self.now.holdings through (table_state table) file (table_state c.cancel.new.self) c.args.self.now.kept
+          (moves_left (table_state table) file c.args.ticket (table_state c.cancel.new.self) c.in-Some.ensures.some)));
     }
 
 pub returns-in-Some-clause-comes_to : goal.returns-in-Some-clause-comes_to

@@ -1,8 +1,10 @@
 use Rattle.std.proofs.Common.{arith, ◌∙◌}
 use Rattle.std.proofs.lemmas.Grind.{common_steps}
 use Rattle.wait_core.specs.declared.Family.TheVariants.{Bytes}
+use Rattle.lock_server.specs.OpeningsView.{through_at}
 use Rattle.lock_server.specs.ServerView.{rules_of, state_of}
 use Rattle.lock_server.specs.TableView.{table_policy, table_state}
+use Rattle.lock_server.proofs.HoldingLemmas.{kept_moved, kept_rested, kept_tidied, kept_unseen, unseen_on}
 use Rattle.lock_server.proofs.SafeLemmas.{moves_released}
 use Rattle.lock_server.proofs.ServerLemmas.{releases_at_rest, rests, safe_rested, swept}
 use Rattle.lock_server.proofs.SweptLemmas.{all_swept_but}
@@ -11,6 +13,7 @@ use Rattle.lock_server.proofs.server.LockServer.flush.Goals as goal
 pub invariant_of-self : goal.invariant_of-self
 invariant_of-self c =
     let table = c.args.self.now.table in
+    let through = through_at c.args.self.now.openings in
     let rest = swept (table_policy table) (table_state c.release.new.self) c.args.file (table_state c.settle.new.self) (table_state c.sweep.new.self)
     (rests (table_policy table) c.release.new.self c.settle.new.self c.args.file c.release.ensures.policy c.settle.ensures.policy c.settle.ensures.settles c.settle.ensures.settled)
     c.sweep.ensures.same in
@@ -21,6 +24,12 @@ invariant_of-self c =
       swept = all_swept_but table c.sweep.new.self c.args.file
           (λ other differs. c.sweep.ensures.others other differs ∙ c.settle.ensures.others other differs ∙ c.release.ensures.others other differs)
           c.sweep.ensures.gone c.args.self.now.swept;
+      kept = kept_tidied c.args.self.now.holdings c.tidy.new.self (table_state c.sweep.new.self) (through_at c.forget.new.self) c.args.owner c.args.file c.tidy.ensures
+          (kept_unseen c.args.self.now.holdings (table_state c.sweep.new.self) through (through_at c.forget.new.self)
+          (unseen_on through (through_at c.forget.new.self) c.args.file c.args.owner c.forget.ensures)
+          (kept_rested c.args.self.now.holdings through (table_policy table) (table_state c.release.new.self) c.args.file (table_state c.sweep.new.self) rest
+          (kept_moved c.args.self.now.holdings through (table_state table) c.args.file (table_state c.release.new.self) c.args.self.now.kept
+          (moves_released (table_state table) c.args.file Bytes c.args.owner (table_state c.release.new.self) c.release.ensures.releases))));
     }
 
 pub returns-clause-flushes : goal.returns-clause-flushes

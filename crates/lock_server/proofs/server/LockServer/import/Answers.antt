@@ -10,7 +10,7 @@ use Rattle.lock_server.proofs.CompleteLemmas.{are_of, made_has, may_be_told, not
 use Rattle.lock_server.proofs.server.LockServer.import.Goals as goal
 
 pub invariant_of-server : goal.invariant_of-server
-invariant_of-server c = record { safe = c.in_ok-table.ensures.safe; swept = c.in_ok-table.ensures.swept }
+invariant_of-server c = record { safe = c.in_ok-table.ensures.safe; swept = c.in_ok-table.ensures.swept; kept = c.in_ok-holdings.ensures }
 
 pub returns-in_err-parts-clause-invalid : goal.returns-in_err-parts-clause-invalid
 returns-in_err-parts-clause-invalid c invalid server export =

@@ -3,11 +3,13 @@ use Rattle.wait_core.specs.declared.Family.TheVariants.{Bytes}
 use Rattle.lock_server.specs.declared.Pending.{Pending}
 use Rattle.lock_server.specs.declared.WaitAnswer.TheVariants as told
 use Rattle.lock_server.specs.Calls.{IsRefused, Suspends, WaitComesTo, byte_request}
+use Rattle.lock_server.specs.OpeningsView.{through_at}
 use Rattle.lock_server.specs.ServerView.{rules_of, state_of}
 use Rattle.lock_server.specs.Settling.{IsWaitBlocked}
 use Rattle.lock_server.specs.States.{State}
 use Rattle.lock_server.specs.TableView.{table_policy, table_state}
 use Rattle.lock_server.proofs.CompatibleLemmas.{free_from_open}
+use Rattle.lock_server.proofs.HoldingLemmas.{kept_joined, kept_rested}
 use Rattle.lock_server.proofs.SafeLemmas.{moves_given}
 use Rattle.lock_server.proofs.ServerLemmas.{ComesToRest, changes_at_rest, rests, safe_after_join, safe_rested, safe_same}
 use Rattle.lock_server.proofs.StateLemmas.{SameState-itself, state_from_same}
@@ -18,10 +20,11 @@ use Rattle.lock_server.proofs.server.LockServer.wait.Goals as goal
 pub invariant_of-self : goal.invariant_of-self
 invariant_of-self c =
     let table = c.args.self.now.table in
-    let new = c.set.new.self in
+    let new = c.set.new.table in
     record {
       safe = safe_same table new c.in_err-set.ensures.err c.set.ensures.policy c.args.self.now.safe;
       swept = all_swept_but table new c.args.file c.set.ensures.others (c.in_err-set.ensures.swept (c.args.self.now.swept c.args.file)) c.args.self.now.swept;
+      kept = c.set.ensures.kept c.args.self.now.kept;
     }
 
 -- nothing blocks the request, and the file came to rest after its set
@@ -32,8 +35,8 @@ ready c blocked =
     let back = c.blocks-2.ensures.1 (subst (λ (w : Pending). IsWaitBlocked (table_policy c.args.self.now.table) F F.waits w) (sym c.byte_request-wanted.ensures) blocked) in
     let none = c.if-not-blocks.true in cc
 
-rest : (c : After-settle) → ComesToRest (table_policy c.args.self.now.table) (table_state c.set.new.self) c.args.file (table_state c.settle.new.self)
-rest c = rests _ c.set.new.self c.settle.new.self c.args.file c.set.ensures.policy c.settle.ensures.policy c.settle.ensures.settles c.settle.ensures.settled
+rest : (c : After-settle) → ComesToRest (table_policy c.args.self.now.table) (table_state c.set.new.table) c.args.file (table_state c.settle.new.self)
+rest c = rests _ c.set.new.table c.settle.new.self c.args.file c.set.ensures.policy c.settle.ensures.policy c.settle.ensures.settles c.settle.ensures.settled
 
 pub invariant_of-self-then-not-blocks : goal.invariant_of-self-then-not-blocks
 invariant_of-self-then-not-blocks c =
@@ -42,15 +45,17 @@ invariant_of-self-then-not-blocks c =
     let F = (table_state table).files c.args.file in
     let request = byte_request c.args.ticket c.args.owner c.args.span c.args.mode c.args.detect in
     record {
-      safe = safe_rested table c.settle.new.self (c.args.owner ∷ []) (table_state c.set.new.self) c.args.file c.args.self.now.safe (c.settle.ensures.policy ∙ c.set.ensures.policy)
-          (moves_given (table_state table) c.args.file request (table_state c.set.new.self) (free_from_open (table_policy table) F F.waits request (ready at.After-set)) c.in_ok-set.ensures.ok)
+      safe = safe_rested table c.settle.new.self (c.args.owner ∷ []) (table_state c.set.new.table) c.args.file c.args.self.now.safe (c.settle.ensures.policy ∙ c.set.ensures.policy)
+          (moves_given (table_state table) c.args.file request (table_state c.set.new.table) (free_from_open (table_policy table) F F.waits request (ready at.After-set)) c.in_ok-set.ensures.ok)
           (rest at.After-settle);
       swept = all_swept_but table c.settle.new.self c.args.file
           (λ other differs. c.settle.ensures.others other differs ∙ c.set.ensures.others other differs)
-          (swept_with_lock (table_policy c.set.new.self) (table_state c.set.new.self) c.args.file c.settle.new.self
-          (bytes_set F c.args.owner c.args.span c.args.mode ((table_state c.set.new.self).files c.args.file) c.requires c.in_ok-set.ensures.ok.sets)
+          (swept_with_lock (table_policy c.set.new.table) (table_state c.set.new.table) c.args.file c.settle.new.self
+          (bytes_set F c.args.owner c.args.span c.args.mode ((table_state c.set.new.table).files c.args.file) c.requires c.in_ok-set.ensures.ok.sets)
           c.settle.ensures.settles)
           c.args.self.now.swept;
+      kept = kept_rested c.set.new.self (through_at c.args.self.now.openings) (table_policy table) (table_state c.set.new.table) c.args.file (table_state c.settle.new.self)
+          (rest at.After-settle) (c.set.ensures.kept c.args.self.now.kept);
     }
 
 pub returns-then-not-blocks-clause-ok : goal.returns-then-not-blocks-clause-ok
@@ -65,10 +70,11 @@ returns-then-not-blocks-clause-ok c =
 pub invariant_of-self-in-Break-branch-3 : goal.invariant_of-self-in-Break-branch-3
 invariant_of-self-in-Break-branch-3 c =
     let table = c.args.self.now.table in
-    let new = c.reserve.new.self in
+    let new = c.reserve.new.table in
     record {
       safe = safe_same table new c.reserve.ensures.same c.reserve.ensures.policy c.args.self.now.safe;
       swept = all_swept_but table new c.args.file c.reserve.ensures.others (c.in_err-reserve.ensures.swept (c.args.self.now.swept c.args.file)) c.args.self.now.swept;
+      kept = c.reserve.ensures.kept c.args.self.now.kept;
     }
 
 -- the request is blocked and closes no cycle, and has joined the waits
@@ -81,7 +87,7 @@ waits c = (
   c.blocks-2.ensures.0 c.if-not-blocks.false,
   λ refused. (let back = c.in_ok-closes_cycle.ensures.1 refused in let none = c.if-branch.false in cc),
   subst (λ (U : State). Suspends U c.args.file c.byte_request-wanted.result (table_state c.join.new.self))
-      (state_from_same (table_state c.args.self.now.table) (table_state c.reserve.new.self) c.reserve.ensures.same) c.join.ensures.suspends,
+      (state_from_same (table_state c.args.self.now.table) (table_state c.reserve.new.table) c.reserve.ensures.same) c.join.ensures.suspends,
 )
 
 pub invariant_of-self-2 : goal.invariant_of-self-2
@@ -92,6 +98,8 @@ invariant_of-self-2 c =
       safe = safe_after_join table c.join.new.self c.args.file c.byte_request-wanted.result c.args.self.now.safe (c.join.ensures.policy ∙ c.reserve.ensures.policy) suspends blocked passed;
       swept = all_swept_but table c.join.new.self c.args.file (λ other differs. c.join.ensures.others other differs ∙ c.reserve.ensures.others other differs)
           (swept_with_wait c.join.new.self c.args.file _ _ c.join.ensures.suspends.joins.waits) c.args.self.now.swept;
+      kept = kept_joined c.reserve.new.self (through_at c.args.self.now.openings) (table_state c.reserve.new.table) c.args.file c.byte_request-wanted.result (table_state c.join.new.self)
+          (c.reserve.ensures.kept c.args.self.now.kept) c.in_ok-reserve.ensures.entered c.join.ensures.suspends;
     }
 
 -- the request is blocked and would close a cycle: nothing has changed

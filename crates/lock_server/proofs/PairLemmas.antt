@@ -1,0 +1,114 @@
+-- Pairs of an owner and a file, in order: for the holdings.
+use Rattle.std.proofs.Common.{arith, ℕ, ◌≡◌, ◌≢◌, ◌<◌, ◌≤◌, ◌∙◌, inl, inr, sym, ap, refl, true, false, Bool, Option, Some, None}
+use Rattle.std.specs.Prelude.{IsTrue}
+use Rattle.std.proofs.lemmas.Bool.{cases_eq, cases_lt}
+use Rattle.std.proofs.lemmas.Bool.Decides.{nat_tests}
+use Rattle.std.specs.BTreeMap.{is_at}
+use Rattle.std.specs.BTreeMap.Range.{IsFromStart, IsLeBy, IsLtBy}
+use Rattle.std.specs.Ordering.{is_eq, is_gt, nat_cmp, ordering_then}
+use Rattle.std.specs.declared.cmp.Ordering.{Ordering}
+use Rattle.std.specs.declared.cmp.Ordering.TheVariants.{Less, Equal, Greater}
+use Rattle.lock_server.specs.Clients.{is_within}
+use Rattle.lock_server.specs.HoldingsView.{behind, pair_cmp}
+use Rattle.lock_server.specs.OpeningsView.{IsAbove}
+
+less : (x y : ℕ) → x < y → nat_cmp x y ≡ Less
+less x y before = grind (arith, nat_tests)
+
+same : (x y : ℕ) → x ≡ y → nat_cmp x y ≡ Equal
+same x y is = grind (arith, nat_tests)
+
+more : (x y : ℕ) → y < x → nat_cmp x y ≡ Greater
+more x y behind = grind (arith, nat_tests)
+
+differs : (x y : ℕ) → x ≢ y → is_eq (nat_cmp x y) ≡ false
+differs x y apart = elim (cases_lt x y) [
+  | inl before ↦ ap is_eq (less x y before)
+  | inr past ↦ ap is_eq (more x y (omega arith))
+]
+
+module _ (owner file other any : ℕ) where
+  compared : Ordering → Ordering
+  compared first = ordering_then first (nat_cmp file any)
+
+  -- a pair is at itself
+  pub pair_at : other ≡ owner → any ≡ file → is_at (pair_cmp (owner, file)) (other, any) ≡ true
+  pair_at same_owner same_file =
+      ap (λ (o : Ordering). is_eq (ordering_then o (nat_cmp file any))) (same owner other (sym same_owner)) ∙ ap is_eq (same file any (sym same_file))
+
+  -- and at no other
+  pub pair_of_other : other ≢ owner → is_at (pair_cmp (owner, file)) (other, any) ≡ false
+  pair_of_other apart = elim (cases_lt owner other) [
+    | inl before ↦ ap (λ (o : Ordering). is_eq (ordering_then o (nat_cmp file any))) (less owner other before)
+    | inr past ↦ ap (λ (o : Ordering). is_eq (ordering_then o (nat_cmp file any))) (more owner other (omega arith))
+  ]
+
+  pub pair_elsewhere : any ≢ file → is_at (pair_cmp (owner, file)) (other, any) ≡ false
+  pair_elsewhere apart = elim (cases_eq other owner) [
+    | inl is ↦ ap (λ (o : Ordering). is_eq (ordering_then o (nat_cmp file any))) (same owner other (sym is)) ∙ differs file any (λ is_file. apart (sym is_file))
+    | inr other_owner ↦ pair_of_other other_owner
+  ]
+
+-- of one owner's pairs that of the lesser file comes first
+pub pair_before : (owner file any : ℕ) → file < any → IsLtBy pair_cmp (owner, file) (owner, any)
+pair_before owner file any before =
+    ap (λ (o : Ordering). ordering_then o (nat_cmp file any)) (same owner owner refl) ∙ less file any before
+
+pub pair_from_first : (owner any : ℕ) → IsLeBy pair_cmp (owner, 0) (owner, any)
+pair_from_first owner any = elim (cases_eq 0 any) [
+  | inl is ↦ ap (λ (o : Ordering). is_gt (ordering_then o (nat_cmp 0 any))) (same owner owner refl) ∙ ap is_gt (same 0 any is)
+  | inr apart ↦ ap is_gt (pair_before owner 0 any (omega arith))
+]
+
+-- a pair that isn't behind another is of no greater owner, and where they are of one owner, of no greater file
+pub owner_upto : (owner file other any : ℕ) → IsLeBy pair_cmp (owner, file) (other, any) → owner ≤ other
+owner_upto owner file other any upto = elim (cases_lt other owner) [
+  | inl behind ↦ absurd (let no : true ≡ false = sym (ap (λ (o : Ordering). is_gt (ordering_then o (nat_cmp file any))) (more owner other behind)) ∙ upto in cc)
+  | inr from ↦ from
+]
+
+pub file_upto : (owner file any : ℕ) → IsLeBy pair_cmp (owner, file) (owner, any) → file ≤ any
+file_upto owner file any upto = elim (cases_lt any file) [
+  | inl behind ↦ absurd (let no : true ≡ false = sym (ap (λ (o : Ordering). is_gt (ordering_then o (nat_cmp file any))) (same owner owner refl) ∙ ap is_gt (more file any behind)) ∙ upto in cc)
+  | inr from ↦ from
+]
+
+-- a pair of the owner whose file is above comes behind
+pub pair_behind : (owner : ℕ) (above : Option ℕ) (file : ℕ) → IsAbove above file → IsFromStart pair_cmp (behind owner above) (owner, file)
+pair_behind owner None file from = pair_from_first owner file
+pair_behind owner (Some least) file from = pair_before owner least file from
+
+-- and one that comes behind is of no lesser owner, and where it is of the owner, its file is above
+pub owner_behind : (owner : ℕ) (above : Option ℕ) (other file : ℕ) → IsFromStart pair_cmp (behind owner above) (other, file) → owner ≤ other
+owner_behind owner None other file from = owner_upto owner 0 other file from
+owner_behind owner (Some least) other file from = owner_upto owner least other file (ap is_gt from)
+
+pub above_behind : (owner : ℕ) (above : Option ℕ) (file : ℕ) → IsFromStart pair_cmp (behind owner above) (owner, file) → IsAbove above file
+above_behind owner None file from = tt
+above_behind owner (Some least) file from = elim (cases_lt least file) [
+  | inl before ↦ before
+  | inr past ↦ absurd (let at = file_upto owner least file (ap is_gt from) in
+      let is : least ≡ file = omega arith in
+      let no : Equal ≡ Less = sym (ap (λ (o : Ordering). ordering_then o (nat_cmp least file)) (same owner owner refl) ∙ same least file is) ∙ from in cc)
+]
+
+-- what is not true is false
+pub untrue : (test : Bool) → (IsTrue test → ⊥) → test ≡ false
+untrue true none = absurd (none refl)
+untrue false none = refl
+
+-- each pair of an owner from the first on comes behind the first owner's
+pub from_owner : (first owner file : ℕ) → first ≤ owner → IsFromStart pair_cmp (behind first None) (owner, file)
+from_owner first owner file from = elim (cases_eq first owner) [
+  | inl is ↦ ap (λ (o : Ordering). is_gt (ordering_then o (nat_cmp 0 file))) (same first owner is ∙ sym (same owner owner refl)) ∙ pair_from_first owner file
+  | inr apart ↦ ap (λ (o : Ordering). is_gt (ordering_then o (nat_cmp 0 file))) (less first owner (omega arith))
+]
+
+pub within_is : (first last owner : ℕ) → first ≤ owner → owner ≤ last → is_within first last owner ≡ true
+within_is first last owner from upto = grind (arith, nat_tests)
+
+pub within_first : (first last owner : ℕ) → IsTrue (is_within first last owner) → first ≤ owner
+within_first first last owner within = grind (arith, nat_tests)
+
+pub within_last : (first last owner : ℕ) → IsTrue (is_within first last owner) → owner ≤ last
+within_last first last owner within = grind (arith, nat_tests)

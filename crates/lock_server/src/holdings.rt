@@ -1,0 +1,135 @@
+//! The files on which each owner has something.
+ghost use Rattle.std.specs.Prelude.{◌≡◌, ◌<◌, ◌≤◌, ℕ, true, false, IfSome, IfNone, IsTrue, IsOk, None, OnOk, OnErr};
+ghost use Rattle.std.specs.BTreeMap.Range.{IsFromStart, IsLeBy};
+ghost use Rattle.std.specs.BTreeSet.{contains};
+ghost use Rattle.lock_server.specs.HoldingsView.{behind as behind_of};
+
+mod collecting;
+mod taking;
+
+use crate::openings::Openings;
+use crate::owners::Owners;
+use crate::table::Table;
+use crate::{Memory, Mode};
+use std::alloc::Global;
+use std::collections::BTreeSet;
+use std::ops::Bound;
+
+/// The files on which each owner has a lock or a wait, or is noted: an order of the server's things by owner.
+#[derive(Drop)]
+pub struct Holdings {
+    /// By owner, and then by file.
+    pairs: BTreeSet<(u64, u64)>,
+}
+
+#[tactic(auto, unfolding(crate::specs::HoldingsView::keeps, crate::specs::HoldingsView::size))]
+impl Holdings {
+    ghost use Rattle.lock_server.specs.Clients.{is_within};
+    ghost use Rattle.lock_server.specs.HoldingsView.{keeps, Keeps, KeepsIf, pair_cmp, SameHoldings, size, Tidies, TidiesIf};
+    ghost use Rattle.lock_server.specs.OpeningsView.{IsAbove, through_at};
+    ghost use Rattle.lock_server.specs.TableView.{table_state};
+
+    /// No owner. It takes no memory.
+    pub fn new(alloc: Global) -> Holdings
+        ensures { (owner file : ℕ) → keeps result owner file ≡ false }
+    {
+        Holdings {
+            pairs: BTreeSet::new(alloc),
+        }
+    }
+
+    /// The owner is kept with the file.
+    ///
+    /// `Memory` leaves all as it was.
+    pub fn enter(&mut self, owner: u64, file: u64) -> Result<(), Memory>
+        ensures ok { OnOk result (Keeps self.old self.new owner file true) }
+        ensures err { OnErr result (SameHoldings self.old self.new) }
+    {
+        self.pairs.insert((owner, file))?;
+        Ok(())
+    }
+
+    /// The owner is kept with the file, where it is to be given a lock of this mode; an unlock takes no memory.
+    ///
+    /// `Memory` leaves all as it was.
+    pub fn enter_for(&mut self, owner: u64, file: u64, mode: Option<Mode>) -> Result<(), Memory>
+        ensures ok { OnOk result (KeepsIf mode self.old self.new owner file) }
+        ensures unlock { mode ≡ None → IsOk result }
+        ensures err { OnErr result (SameHoldings self.old self.new) }
+    {
+        match mode {
+            Some(_) => self.enter(owner, file),
+            None => Ok(()),
+        }
+    }
+
+    /// The owner isn't kept with the file any more. It takes no memory.
+    fn leave(&mut self, owner: u64, file: u64)
+        ensures keeps { Keeps self.old self.new owner file false }
+        ensures fewer { keeps self.old owner file ≡ true → size self.new < size self.old }
+    {
+        self.pairs.remove(&(owner, file));
+    }
+
+    /// The owner isn't kept with the file any more, where it has nothing left there. It takes no memory.
+    pub fn tidy(&mut self, table: &Table, openings: &Openings, owner: u64, file: u64)
+        ensures { Tidies self.old self.new (table_state table.now) (through_at openings.now) owner file }
+    {
+        if openings.through(file, owner).is_none() && table.has_nothing(file, owner) {
+            self.leave(owner, file);
+        }
+    }
+
+    /// The same of the owner that is given, if any.
+    pub fn tidy_of(&mut self, table: &Table, openings: &Openings, owner: Option<u64>, file: u64)
+        ensures { TidiesIf owner self.old self.new (table_state table.now) (through_at openings.now) file }
+    {
+        if let Some(owner) = owner {
+            self.tidy(table, openings, owner, file);
+        }
+    }
+
+    /// The owners aren't kept with any file any more. It takes no memory.
+    pub fn leave_all(&mut self, owners: Owners)
+        ensures gone { (owner file : ℕ) → IsTrue (is_within owners.first owners.last owner) → keeps self.new owner file ≡ false }
+        ensures others { (owner file : ℕ) → is_within owners.first owners.last owner ≡ false → keeps self.new owner file ≡ keeps self.old owner file }
+    {
+        while let Some((owner, file)) = self.next_pair(behind(owners.first, None)) {
+            if owners.last < owner {
+                return;
+            }
+            self.leave(owner, file);
+        }
+    }
+
+    /// The least file with which the owner is kept, above this one where one is given.
+    pub fn next_file(&self, owner: u64, above: Option<u64>) -> Option<u64>
+        ensures above { IfSome result (λ file. IsAbove above file) }
+        ensures least { IfSome result (λ file. (other : ℕ) → IsAbove above other → other < file → keeps self.now owner other ≡ false) }
+        ensures none { IfNone result ((file : ℕ) → IsAbove above file → keeps self.now owner file ≡ false) }
+    {
+        let (found, file) = self.next_pair(behind(owner, above))?;
+        if found == owner { Some(file) } else { None }
+    }
+
+    /// The first pair from this bound on.
+    fn next_pair(&self, from: Bound<(u64, u64)>) -> Option<(u64, u64)>
+        ensures from { IfSome result (IsFromStart pair_cmp from) }
+        ensures kept { IfSome result (λ found. IsTrue (contains pair_cmp self.now.pairs found)) }
+        ensures least { IfSome result (λ found. (other : ℕ × ℕ) → IsFromStart pair_cmp from other → IsTrue (contains pair_cmp self.now.pairs other)
+            → IsLeBy pair_cmp found other) }
+        ensures none { IfNone result ((other : ℕ × ℕ) → IsFromStart pair_cmp from other → contains pair_cmp self.now.pairs other ≡ false) }
+    {
+        Some(*self.pairs.range((from, Bound::Unbounded)).next()?)
+    }
+}
+
+/// Where the owner's pairs begin whose files are above this one, where one is given.
+fn behind(owner: u64, above: Option<u64>) -> Bound<(u64, u64)>
+    ensures { result ≡ behind_of owner above }
+{
+    match above {
+        None => Bound::Included((owner, 0)),
+        Some(file) => Bound::Excluded((owner, file)),
+    }
+}
