@@ -1,0 +1,4 @@
+pub mod Clusters
+pub mod Worlds
+pub mod Steps
+pub mod Outliving

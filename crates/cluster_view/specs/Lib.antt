@@ -1,0 +1,9 @@
+pub mod Views
+pub mod Hellos
+pub mod Votes
+pub mod Voters
+pub mod Bases
+pub mod Tables
+pub mod Decisions
+pub mod Parts
+pub mod Laws
