@@ -4,7 +4,7 @@ PROGRAM := crates/lockreplay/out/lockreplay
 VERSION := $(shell sed -n 's/^.. \([0-9.]*\)$$/\1/p' CHANGELOG.md | head -n 1)
 
 .PHONY: run try test build released format memory threads edits conformance torture planted conformance-tests trace-tests docs install library \
-    install-library calls embed bench lockfs fuse-test dist deb install-files
+    install-library calls embed bench lockfs fuse-test cluster-test cluster-model dist deb install-files
 
 run: released build
 	@$(PROGRAM) $(if $(FILE),'$(FILE)')
@@ -24,10 +24,11 @@ released:
 	    && echo "$$at is a released lockreplay of this version, $(VERSION), and needs no build" >&2 || true
 
 # The gate, and then the command lines, single lines, devices that fail, growths and threads that are refused, the worked scripts (also in
-# threads, in whatever order comes), the large scripts and the samples on the program as two compilers built it in the gate, what the library's
-# calls tell C where a C compiler is there, what the README (which links that library), the help and the manual page show, the names that the
-# documents point to, that the tests of script_core have these worked scripts, that want of memory is made at one place, that each edit still
-# compiles, and the conformance tools' tests but for those that a busy machine can upset.
+# threads, in whatever order comes), the large scripts, the samples, and what every order of scripts comes to on the program as two
+# compilers built it in the gate, what the library's calls tell C where a C compiler is there, what the README (which links that library),
+# the help and the manual page show, the names that the documents point to, that the tests of script_core have these worked scripts, that
+# want of memory is made at one place, that each edit still compiles, and the conformance tools' tests but for those that a busy machine can
+# upset.
 WORKED := $(basename $(wildcard tests/worked-scripts/*.out)) $(wildcard tests/threads/*)
 test:
 	tools/gate-line rt ci
@@ -46,6 +47,8 @@ test:
 	sh tests/large-scripts.sh $(PROGRAM).by-rattle
 	sh tests/samples.sh $(PROGRAM)
 	sh tests/samples.sh $(PROGRAM).by-rattle
+	tests/explored $(PROGRAM)
+	tests/explored $(PROGRAM).by-rattle --scripts 50
 	$(MAKE) --no-print-directory calls
 	sh tests/readme.sh $(PROGRAM)
 	sh tests/signposts.sh
@@ -132,10 +135,10 @@ $(LIBRARY): $(wildcard $(PROVED)) embedding/dehokuna.h tools/link-library
 # before, so as root it wants no toolchain where `make install-files` was made. lockfs goes along where libfuse3 is there.
 PREFIX ?= /usr/local
 install: install-files
-	@tools/stage '$(DESTDIR)$(PREFIX)' '$(PREFIX)' lib programs library development licences
+	@tools/stage '$(DESTDIR)$(PREFIX)' '$(PREFIX)' lib programs cluster library development licences
 
 install-files: build library
-	@if pkg-config --exists fuse3; then $(MAKE) -s $(LOCKFS); \
+	@if pkg-config --exists fuse3; then $(MAKE) -s lockfs; \
 	else rm -f $(LOCKFS); echo 'install: without lockfs: libfuse3 is not there (package libfuse3-dev)' >&2; fi
 
 # The library alone.
@@ -170,13 +173,25 @@ bench: library
 	@$(CC) -std=gnu11 -O2 -Wall -Wextra -Wshadow -Iembedding embedding/bench.c $(LIBRARY) -o embedding/out/bench
 	@embedding/out/bench
 
-# The file system that has its locks answered by the library; wants libfuse3.
+# The file system that has its locks answered by the library; wants libfuse3. Beside it goes what it is with --cluster, on several nodes, where
+# corosync's libraries are there (packages libcpg-dev, libcmap-dev, libvotequorum-dev, libcfg-dev); it has its views decided by the proved
+# crate cluster_view_c.
 LOCKFS := embedding/out/lockfs
+LOCKFS_CLUSTER := embedding/out/lockfs-cluster
+CLUSTER_LIBRARIES := fuse3 libcpg libcmap libvotequorum libcfg
+CLUSTER_SOURCES := $(wildcard embedding/cluster/*.c)
+CLUSTER_VIEW := crates/cluster_view_c/out/libcluster_view_c.a
+C_FLAGS := -std=gnu11 -O2 -g -ffile-prefix-map='$(CURDIR)=.' -Wall -Wextra -Wshadow -Iembedding
 lockfs: library
 	@$(MAKE) -s $(LOCKFS)
-$(LOCKFS): embedding/lockfs/lockfs.c $(LIBRARY)
-	$(CC) -std=gnu11 -O2 -g -ffile-prefix-map='$(CURDIR)=.' -Wall -Wextra -Wshadow -Iembedding embedding/lockfs/lockfs.c $(LIBRARY) \
-	    $$(pkg-config --cflags --libs fuse3) -o $(LOCKFS)
+	@if pkg-config --exists $(CLUSTER_LIBRARIES); then tools/build cluster_view_c && $(MAKE) -s $(LOCKFS_CLUSTER); \
+	else rm -f $(LOCKFS_CLUSTER); echo 'lockfs: without --cluster: a library of corosync is not there ($(CLUSTER_LIBRARIES))' >&2; fi
+$(LOCKFS): embedding/lockfs/lockfs.c embedding/lockfs/lockfs.h $(LIBRARY)
+	$(CC) $(C_FLAGS) embedding/lockfs/lockfs.c $(LIBRARY) $$(pkg-config --cflags --libs fuse3) -o $(LOCKFS)
+BUILD_CLUSTER = $(CC) $(C_FLAGS) -DLOCKFS_CLUSTER embedding/lockfs/lockfs.c $(CLUSTER_SOURCES) $(CLUSTER_VIEW) $(LIBRARY) -pthread \
+    $$(pkg-config --cflags --libs $(CLUSTER_LIBRARIES))
+$(LOCKFS_CLUSTER): embedding/lockfs/lockfs.c embedding/lockfs/lockfs.h $(CLUSTER_SOURCES) $(wildcard embedding/cluster/*.h) $(CLUSTER_VIEW) $(LIBRARY)
+	$(BUILD_CLUSTER) -o $(LOCKFS_CLUSTER)
 
 # Programs and the corpus on a mount of it, beside a tmpfs, and what takes no corpus again under valgrind. Skips where there is no FUSE.
 fuse-test:
@@ -184,3 +199,21 @@ fuse-test:
 	else $(MAKE) --no-print-directory build lockfs && LOCKREPLAY='$(abspath $(PROGRAM))' embedding/fuse-test $(LOCKFS) \
 	    && { ! command -v valgrind > /dev/null \
 	        || TRANSACTIONS=40 embedding/fuse-test -- valgrind -q --error-exitcode=9 --leak-check=full --show-leak-kinds=all $(LOCKFS); }; fi
+
+# lockfs on three nodes in network namespaces of this machine, under faults; wants root, corosync and iproute2, and takes some ten minutes. Skips
+# where something is missing, and the judged race where lockreplay isn't built. `make cluster-model` tries parts by themselves, the protocol's rules on models, and replicas in C on the models' net; RUNS is how many.
+CLUSTER_TEST := embedding/out/cluster-test
+cluster-test: lockfs
+	@if [ ! -x $(LOCKFS_CLUSTER) ]; then echo '1..0 # skip lockfs is built without corosync'; \
+	else mkdir -p $(CLUSTER_TEST) && $(BUILD_CLUSTER) -DTEST_HOOKS -o $(CLUSTER_TEST)/lockfs-cluster \
+	    && for program in loop latency; do $(CC) $(C_FLAGS) embedding/clustertest/$$program.c -o $(CLUSTER_TEST)/$$program || exit 1; done \
+	    && { [ ! -x $(PROGRAM) ] || export LOCKREPLAY='$(abspath $(PROGRAM))'; } && embedding/cluster-test $(CLUSTER_TEST); fi
+RUNS ?= 1000
+MODELLED := $(addprefix embedding/cluster/,bytes.c map.c requests.c state.c log.c own.c purges.c hello.c replica.c tests/sim_group.c)
+UNITS := $(addprefix embedding/cluster/,bytes.c map.c requests.c state.c log.c tests/units.c)
+cluster-model: library
+	@tools/build cluster_view_c && mkdir -p $(CLUSTER_TEST)
+	@$(CC) $(C_FLAGS) -fPIC -shared -Wl,-Bsymbolic,-z,now $(MODELLED) $(CLUSTER_VIEW) $(LIBRARY) -o $(CLUSTER_TEST)/replica.so
+	@$(CC) $(C_FLAGS) -fsanitize=address,undefined $(UNITS) $(LIBRARY) -o $(CLUSTER_TEST)/units
+	$(CLUSTER_TEST)/units
+	embedding/cluster/tests/try-rules $(CLUSTER_TEST)/replica.so $(RUNS)

@@ -2,24 +2,29 @@
  * description locks and flock.
  *
  *   lockfs [-f] [--kernel-locks] [--log FILE] [-o allow_other] FOLDER MOUNTPOINT
+ *   lockfs --cluster NAME [--grace MS] [--fence COMMAND] [-f] [--log FILE] [-o allow_other] FOLDER MOUNTPOINT
+ *   lockfs --cluster NAME --witness [--grace MS] [--fence COMMAND]
  *   lockfs --list MOUNTPOINT
  *
  * It returns once MOUNTPOINT is mounted, and serves until `fusermount3 -u MOUNTPOINT` or a SIGTERM; with -f it stays in the foreground. With
  * --kernel-locks it answers no lock request, so the kernel's own locks hold on the mount: for measurements. With --log it adds a line to
  * FILE for each lock request that it refuses. With -o allow_other all users have the mount; what a user makes there is the user's where
- * lockfs is root's. With --list it prints the locks and waits of a mount, as a file of the mount reads that no folder of it lists.
+ * lockfs is root's. With --list it prints the locks and waits of a mount, as a file of the mount reads that no folder of it lists. With --cluster
+ * its locks hold on all nodes of a corosync cluster (docs/CLUSTER.md), where it is built for that.
  *
  * One thread reads requests and answers them. What a lock request comes to is the library's to say: nothing here compares locks, queues a
  * wait or looks for a deadlock. To the library a file is its node's number, an owner the number that the kernel gives it, a ticket the
  * address of the request that waits, which no other request has until it is answered. The kernel doesn't tell open file description locks
  * from record locks, so each wait for bytes is one that a deadlock is looked for with. */
-#define FUSE_USE_VERSION 35
 #define _GNU_SOURCE
+#include "lockfs.h"
 #include "dehokuna.h"
+#ifdef LOCKFS_CLUSTER
+#include "../cluster/mount.h"
+#endif
 #include <dirent.h>
 #include <errno.h>
 #include <fcntl.h>
-#include <fuse_lowlevel.h>
 #include <grp.h>
 #include <limits.h>
 #include <search.h>
@@ -51,6 +56,7 @@ struct node {
     struct asker *askers;
 };
 
+struct lockfs_ways lockfs_ways;
 static struct dehokuna_server server;
 static struct node root;
 static void *nodes; /* a tree of tsearch */
@@ -70,13 +76,6 @@ static struct path path_of(fuse_ino_t file) {
 
 /* ---- The log of refused requests */
 
-/* A request for a lock, as the log tells it. */
-struct asked {
-    fuse_ino_t file;
-    pid_t thread;
-    char words[64];
-};
-
 /* A request that waits, which the log needs where it ends by a signal. */
 struct waiting {
     fuse_req_t request;
@@ -87,14 +86,14 @@ struct waiting {
 static FILE *refusals; /* NULL: there is no log */
 static struct waiting *waiting;
 
-static struct asked asked_for_bytes(fuse_req_t request, fuse_ino_t file, const char *call, const struct flock *lock) {
+struct asked asked_for_bytes(fuse_req_t request, fuse_ino_t file, const char *call, const struct flock *lock) {
     struct asked asked = {.file = file, .thread = fuse_req_ctx(request)->pid};
     const char *mode = lock->l_type == F_UNLCK ? "u" : lock->l_type == F_RDLCK ? "r" : "w";
     snprintf(asked.words, sizeof asked.words, "%s %s %lld %lld", call, mode, (long long)lock->l_start, (long long)lock->l_len);
     return asked;
 }
 
-static struct asked asked_by_flock(fuse_req_t request, fuse_ino_t file, int operation) {
+struct asked asked_by_flock(fuse_req_t request, fuse_ino_t file, int operation) {
     struct asked asked = {.file = file, .thread = fuse_req_ctx(request)->pid};
     int kind = operation & ~LOCK_NB;
     const char *mode = kind == LOCK_UN ? "un" : kind == LOCK_SH ? "sh" : "ex";
@@ -108,6 +107,8 @@ static const char *name_of(int error) {
     case EDEADLK: return "EDEADLK";
     case EINTR: return "EINTR";
     case EINVAL: return "EINVAL";
+    case EIO: return "EIO";
+    case ESTALE: return "ESTALE";
     default: return "ENOLCK";
     }
 }
@@ -137,8 +138,12 @@ static void tell_refusal(const struct asked *asked, int error) {
     fflush(refusals);
 }
 
-static void refuse(fuse_req_t request, const struct asked *asked, int error) {
+void log_refusal(const struct asked *asked, int error) {
     if (refusals) tell_refusal(asked, error);
+}
+
+static void refuse(fuse_req_t request, const struct asked *asked, int error) {
+    log_refusal(asked, error);
     fuse_reply_err(request, error);
 }
 
@@ -266,12 +271,27 @@ static void answer_close(fuse_req_t request) {
     answer_grants();
 }
 
-static uint64_t last_of(const struct flock *lock) {
+uint64_t last_of(const struct flock *lock) {
     return lock->l_len == 0 ? DEHOKUNA_LARGEST_OFFSET : (uint64_t)lock->l_start + (uint64_t)lock->l_len - 1;
 }
 
-static uint32_t mode_of(short type) {
+uint32_t mode_of(short type) {
     return type == F_UNLCK ? DEHOKUNA_UNLOCK : type == F_RDLCK ? DEHOKUNA_READ : DEHOKUNA_WRITE;
+}
+
+uint32_t mode_of_flock(int operation) {
+    int kind = operation & ~LOCK_NB;
+    return kind == LOCK_UN ? DEHOKUNA_UNLOCK : kind == LOCK_SH ? DEHOKUNA_READ : DEHOKUNA_WRITE;
+}
+
+struct flock blocker_told(const struct dehokuna_blocker *blocker, pid_t pid) {
+    struct flock told = {.l_type = F_UNLCK, .l_whence = SEEK_SET};
+    if (!blocker) return told;
+    told.l_type = blocker->mode == DEHOKUNA_READ ? F_RDLCK : F_WRLCK;
+    told.l_start = (off_t)blocker->first;
+    told.l_len = blocker->last == DEHOKUNA_LARGEST_OFFSET ? 0 : (off_t)(blocker->last - blocker->first + 1);
+    told.l_pid = pid;
+    return told;
 }
 
 static void lockfs_setlk(fuse_req_t request, fuse_ino_t file, struct fuse_file_info *info, struct flock *lock, int may_wait) {
@@ -296,20 +316,15 @@ static void lockfs_getlk(fuse_req_t request, fuse_ino_t file, struct fuse_file_i
         return;
     }
     struct dehokuna_blocker blocker;
-    struct flock told = {.l_type = F_UNLCK, .l_whence = SEEK_SET};
+    struct flock told = blocker_told(NULL, 0);
     uint64_t first = (uint64_t)lock->l_start;
-    if (dehokuna_get(&server, file, info->lock_owner, first, last_of(lock), mode_of(lock->l_type), &blocker)) {
-        told.l_type = blocker.mode == DEHOKUNA_READ ? F_RDLCK : F_WRLCK;
-        told.l_start = (off_t)blocker.first;
-        told.l_len = blocker.last == DEHOKUNA_LARGEST_OFFSET ? 0 : (off_t)(blocker.last - blocker.first + 1);
-        told.l_pid = pid_of(node_of(file), blocker.owner, DEHOKUNA_BYTES);
-    }
+    if (dehokuna_get(&server, file, info->lock_owner, first, last_of(lock), mode_of(lock->l_type), &blocker))
+        told = blocker_told(&blocker, pid_of(node_of(file), blocker.owner, DEHOKUNA_BYTES));
     fuse_reply_lock(request, &told);
 }
 
 static void lockfs_flock(fuse_req_t request, fuse_ino_t file, struct fuse_file_info *info, int operation) {
-    int kind = operation & ~LOCK_NB;
-    uint32_t mode = kind == LOCK_UN ? DEHOKUNA_UNLOCK : kind == LOCK_SH ? DEHOKUNA_READ : DEHOKUNA_WRITE;
+    uint32_t mode = mode_of_flock(operation);
     struct asked asked = asked_by_flock(request, file, operation);
     /* (where there is no memory, the list of locks won't have the pid) */
     if (mode != DEHOKUNA_UNLOCK) remember(node_of(file), info->lock_owner, DEHOKUNA_WHOLE, info->fh, fuse_req_ctx(request)->pid);
@@ -340,7 +355,15 @@ struct line {
     bool waits;
 };
 
-static bool is_listing(fuse_ino_t file) { return node_of(file) == &listing; }
+bool is_listing(fuse_ino_t file) { return node_of(file) == &listing; }
+
+/* The file's name, below the folder where it is there. */
+static void print_name(FILE *out, fuse_ino_t file) {
+    struct name name = name_in_folder(file), folder = name_in_folder(FUSE_ROOT_ID);
+    size_t size = strlen(folder.text);
+    bool is_below = !strncmp(name.text, folder.text, size) && name.text[size] == '/';
+    fputs(is_below ? name.text + size + 1 : name.text, out);
+}
 
 /* The kind, the pid, the mode (of a wait with a star), the first and the last byte, whose wait is in whose way, and the file; what isn't
  * known is a hyphen, as the last byte of a lock to the end. */
@@ -349,11 +372,10 @@ static void print_line(FILE *out, fuse_ino_t file, const struct line *line) {
     if (line->pid) snprintf(pid, sizeof pid, "%d", (int)line->pid);
     if (line->blocker) snprintf(blocker, sizeof blocker, "%d", (int)line->blocker);
     if (line->last < DEHOKUNA_LARGEST_OFFSET) snprintf(last, sizeof last, "%llu", (unsigned long long)line->last);
-    struct name name = name_in_folder(file), folder = name_in_folder(FUSE_ROOT_ID);
-    size_t size = strlen(folder.text);
-    bool is_below = !strncmp(name.text, folder.text, size) && name.text[size] == '/';
-    fprintf(out, "%s %s %s%s %llu %s %s %s\n", line->kind, pid, line->mode == DEHOKUNA_READ ? "READ" : "WRITE", line->waits ? "*" : "",
-            (unsigned long long)line->first, last, blocker, is_below ? name.text + size + 1 : name.text);
+    fprintf(out, "%s %s %s%s %llu %s %s ", line->kind, pid, line->mode == DEHOKUNA_READ ? "READ" : "WRITE", line->waits ? "*" : "",
+            (unsigned long long)line->first, last, blocker);
+    print_name(out, file);
+    fprintf(out, "\n");
 }
 
 static void print_locks(FILE *out, fuse_ino_t file) {
@@ -381,6 +403,12 @@ static void print_waits(FILE *out, fuse_ino_t file) {
     }
 }
 
+static void print_all(FILE *out) {
+    uint64_t file;
+    fprintf(out, "KIND PID MODE FIRST LAST BLOCKER FILE\n");
+    for (uint64_t from = 0; dehokuna_next_file(&server, from, &file); from = file + 1) print_locks(out, file), print_waits(out, file);
+}
+
 /* NULL: there is no memory. */
 static struct list *make_list(void) {
     struct list *list = malloc(sizeof *list);
@@ -389,9 +417,8 @@ static struct list *make_list(void) {
         free(list);
         return NULL;
     }
-    fprintf(out, "KIND PID MODE FIRST LAST BLOCKER FILE\n");
-    uint64_t file;
-    for (uint64_t from = 0; dehokuna_next_file(&server, from, &file); from = file + 1) print_locks(out, file), print_waits(out, file);
+    if (lockfs_ways.print_list) lockfs_ways.print_list(out);
+    else print_all(out);
     if (!fclose(out)) return list;
     free(list->text);
     free(list);
@@ -470,6 +497,16 @@ static struct node *node_for(int descriptor, const struct stat *described) {
     close(descriptor);
     free(node);
     return NULL;
+}
+
+ino_t inode_of_file(fuse_ino_t file) { return node_of(file)->inode; }
+int descriptor_of_file(fuse_ino_t file) { return node_of(file)->descriptor; }
+
+void print_file_name(FILE *out, ino_t inode) {
+    struct node key = {.device = root.device, .inode = inode}, **known = tfind(&key, &nodes, compare_nodes);
+    if (inode == root.inode) fputs(".", out);
+    else if (known) print_name(out, (uintptr_t)*known);
+    else fprintf(out, "inode:%llu", (unsigned long long)inode);
 }
 
 /* Fills the entry in, and counts it as a look-up; otherwise the error. */
@@ -553,6 +590,13 @@ static void lockfs_setattr(fuse_req_t request, fuse_ino_t file, struct stat *wan
     else lockfs_getattr(request, file, info);
 }
 
+/* An open file begins; on one machine the kernel may keep what it has of the file. */
+static void begin_open(int descriptor, fuse_ino_t file, struct fuse_file_info *info) {
+    info->fh = (uint64_t)descriptor;
+    if (lockfs_ways.opened) lockfs_ways.opened(file, info);
+    else info->keep_cache = 1;
+}
+
 /* The kernel has followed links, and says itself where what is appended goes. */
 static int open_flags(const struct fuse_file_info *info) { return (info->flags & ~(O_NOFOLLOW | O_APPEND)) | O_CLOEXEC; }
 
@@ -567,8 +611,7 @@ static void lockfs_open(fuse_req_t request, fuse_ino_t file, struct fuse_file_in
         fuse_reply_err(request, errno);
         return;
     }
-    info->fh = (uint64_t)descriptor;
-    info->keep_cache = 1;
+    begin_open(descriptor, file, info);
     fuse_reply_open(request, info);
 }
 
@@ -608,8 +651,7 @@ static void lockfs_create(fuse_req_t request, fuse_ino_t parent, const char *nam
         fuse_reply_err(request, error);
         return;
     }
-    info->fh = (uint64_t)descriptor;
-    info->keep_cache = 1;
+    begin_open(descriptor, entry.ino, info);
     fuse_reply_create(request, &entry, info);
 }
 
@@ -757,22 +799,78 @@ static struct fuse_lowlevel_ops operations = {
 
 /* What the command line says. */
 struct command {
-    bool in_foreground, by_kernel, for_all_users;
-    const char *log, *folder, *mountpoint;
+    bool in_foreground, by_kernel, for_all_users, is_witness;
+    const char *log, *cluster, *grace, *fence, *folder, *mountpoint;
 };
+
+/* Reads a word that stands alone. */
+static bool read_switch(const char *word, struct command *command) {
+    if (!strcmp(word, "-f")) command->in_foreground = true;
+    else if (!strcmp(word, "--kernel-locks")) command->by_kernel = true;
+    else if (!strcmp(word, "--witness")) command->is_witness = true;
+    else return false;
+    return true;
+}
+
+/* Reads a word and what it asks for. */
+static bool read_option(const char *word, const char *value, struct command *command) {
+    if (!strcmp(word, "--log")) command->log = value;
+    else if (!strcmp(word, "--cluster")) command->cluster = value;
+    else if (!strcmp(word, "--grace")) command->grace = value;
+    else if (!strcmp(word, "--fence")) command->fence = value;
+    else if (!strcmp(word, "-o") && !strcmp(value, "allow_other")) command->for_all_users = true;
+    else return false;
+    return true;
+}
+
+/* Whether what is asked for goes together. */
+static bool is_sound(const struct command *command) {
+    char *end = "";
+    if (command->grace && (strtoul(command->grace, &end, 10) == 0 || strtoul(command->grace, NULL, 10) > INT_MAX)) return false;
+    if (*end || (command->cluster ? command->by_kernel : command->is_witness || command->grace || command->fence)) return false;
+    return command->is_witness ? !command->folder && !command->log && !command->for_all_users : command->mountpoint != NULL;
+}
 
 static bool read_command(int count, char **words, struct command *command) {
     for (int at = 1; at < count; at++) {
-        if (!strcmp(words[at], "-f")) command->in_foreground = true;
-        else if (!strcmp(words[at], "--kernel-locks")) command->by_kernel = true;
-        else if (!strcmp(words[at], "--log") && at + 1 < count) command->log = words[++at];
-        else if (!strcmp(words[at], "-o") && at + 1 < count && !strcmp(words[at + 1], "allow_other")) command->for_all_users = true, at++;
+        if (read_switch(words[at], command)) continue;
+        if (at + 1 < count && read_option(words[at], words[at + 1], command)) at++;
         else if (words[at][0] == '-' || command->mountpoint) return false;
         else if (command->folder) command->mountpoint = words[at];
         else command->folder = words[at];
     }
-    return command->mountpoint;
+    return is_sound(command);
 }
+
+/* ---- Several nodes */
+
+#ifdef LOCKFS_CLUSTER
+static bool prepare_cluster(const struct command *command, char **words) {
+    (void)words;
+    const struct cluster_options options = {.name = command->cluster, .grace = command->grace ? (unsigned)strtoul(command->grace, NULL, 10) : 0,
+                                            .fence = command->fence, .in_foreground = command->in_foreground || command->is_witness};
+    if (!cluster_prepare(&options)) return false;
+    cluster_operations(&operations);
+    return true;
+}
+#else
+#define CLUSTER_PROGRAM "lockfs-cluster"
+static bool cluster_begin(void) { return false; }
+static void cluster_end(void) {}
+static bool cluster_witness(void) { return false; }
+
+/* Becomes the program beside this one that is built with corosync's libraries, which this one does without. */
+static bool prepare_cluster(const struct command *command, char **words) {
+    (void)command;
+    char path[PATH_MAX];
+    ssize_t size = readlink("/proc/self/exe", path, sizeof path - sizeof CLUSTER_PROGRAM);
+    while (size > 0 && path[size - 1] != '/') size--;
+    strcpy(path + (size < 0 ? 0 : size), CLUSTER_PROGRAM);
+    execv(path, words);
+    fprintf(stderr, "lockfs: --cluster: %s: %s (it is built where corosync's libraries are)\n", path, strerror(errno));
+    return false;
+}
+#endif
 
 /* Prints the list of a mount; false where it has none. */
 static bool print_list(const char *mountpoint) {
@@ -797,9 +895,11 @@ static bool serve(struct fuse_session *session, const struct command *command) {
     bool served = false;
     if (mountpoint && !fuse_set_signal_handlers(session)) {
         if (!fuse_session_mount(session, mountpoint)) {
+            bool is_begun = !fuse_daemonize(command->in_foreground) && (!command->cluster || cluster_begin());
             /* (a signal that ended it is told by its number, an error by one below 0) */
-            served = !fuse_daemonize(command->in_foreground) && fuse_session_loop(session) >= 0;
+            served = is_begun && fuse_session_loop(session) >= 0;
             fuse_session_unmount(session);
+            if (is_begun && command->cluster) cluster_end();
         }
         fuse_remove_signal_handlers(session);
     }
@@ -823,28 +923,40 @@ static void forget_node(void *node) {
     free(node);
 }
 
+static int usage(void) {
+    fprintf(stderr, "usage: lockfs [-f] [--kernel-locks] [--log FILE] [-o allow_other] FOLDER MOUNTPOINT\n"
+                    "       lockfs --cluster NAME [--grace MS] [--fence COMMAND] [-f] [--log FILE] [-o allow_other] FOLDER MOUNTPOINT\n"
+                    "       lockfs --cluster NAME --witness [--grace MS] [--fence COMMAND]\n"
+                    "       lockfs --list MOUNTPOINT\n");
+    return 2;
+}
+
+/* Whether the folder, the log and the table are there; else it is told what isn't. */
+static bool prepare(const struct command *command) {
+    struct stat described;
+    root.descriptor = open(command->folder, O_PATH | O_DIRECTORY | O_CLOEXEC);
+    if (root.descriptor < 0 || fstatat(root.descriptor, "", &described, AT_EMPTY_PATH)) {
+        perror(command->folder);
+        return false;
+    }
+    root.device = described.st_dev, root.inode = described.st_ino;
+    refusals = command->log ? fopen(command->log, "ae") : NULL;
+    if (command->log && !refusals) {
+        perror(command->log);
+        return false;
+    }
+    if (dehokuna_create(&server, DEHOKUNA_HELD | DEHOKUNA_ATOMIC)) return true;
+    fprintf(stderr, "lockfs: no memory\n");
+    return false;
+}
+
 int main(int count, char **words) {
     struct command command = {0};
     if (count == 3 && !strcmp(words[1], "--list")) return print_list(words[2]) ? 0 : 1;
-    if (!read_command(count, words, &command)) {
-        fprintf(stderr, "usage: lockfs [-f] [--kernel-locks] [--log FILE] [-o allow_other] FOLDER MOUNTPOINT\n"
-                        "       lockfs --list MOUNTPOINT\n");
-        return 2;
-    }
-    root.descriptor = open(command.folder, O_PATH | O_DIRECTORY | O_CLOEXEC);
-    if (root.descriptor < 0) {
-        perror(command.folder);
-        return 1;
-    }
-    refusals = command.log ? fopen(command.log, "ae") : NULL;
-    if (command.log && !refusals) {
-        perror(command.log);
-        return 1;
-    }
-    if (!dehokuna_create(&server, DEHOKUNA_HELD | DEHOKUNA_ATOMIC)) {
-        fprintf(stderr, "lockfs: no memory\n");
-        return 1;
-    }
+    if (!read_command(count, words, &command)) return usage();
+    if (command.cluster && !prepare_cluster(&command, words)) return 1;
+    if (command.is_witness) return cluster_witness() ? 0 : 1;
+    if (!prepare(&command)) return 1;
     if (command.by_kernel) operations.getlk = NULL, operations.setlk = NULL, operations.flock = NULL;
     struct rlimit files;
     if (!getrlimit(RLIMIT_NOFILE, &files)) files.rlim_cur = files.rlim_max, setrlimit(RLIMIT_NOFILE, &files);

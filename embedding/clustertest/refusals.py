@@ -1,0 +1,52 @@
+"""What lockfs refuses to begin with, and clusters of other shapes."""
+
+from __future__ import annotations
+
+import subprocess
+
+from clustertest.client import open_client
+from clustertest.nodes import GROUP, Nodes, require, wait_until
+
+
+def said(nodes: Nodes, node: int, *options: object) -> str:
+    """What a lockfs says that doesn't begin."""
+    words = nodes.inside(node, nodes.lockfs, "-f", "--cluster", *options, nodes.folder, nodes.mount(node))
+    ran = subprocess.run(words, capture_output=True, text=True, check=False, timeout=30)
+    require(ran.returncode == 1, f"it ended by {ran.returncode}: {ran.stderr}")
+    return ran.stderr
+
+
+def refusals(lockfs: str) -> str:
+    """A grace that is too short, a node above 65,535, no corosync."""
+    with Nodes(lockfs, 1) as nodes:
+        require("isn't longer than a node needs" in said(nodes, 1, GROUP, "--grace", 500), "a grace that is too short is taken")
+        nodes.kill_corosync(1)
+        require("no corosync" in said(nodes, 1, GROUP), "there is no corosync, and it isn't told")
+    with Nodes(lockfs, 1, "udpu", numbers={1: 65536}) as nodes:
+        require("above 65535" in said(nodes, 1, GROUP), "a node above 65535 is taken")
+    for words in (["--cluster"], ["--witness", "a", "b"], ["--grace", "100", "a", "b"], ["--cluster", "n", "--grace", "x", "a", "b"],
+                  ["--cluster", "n", "--witness", "a", "b"], ["--cluster", "n", "--kernel-locks", "a", "b"]):
+        require(subprocess.run([lockfs, *words], capture_output=True, check=False).returncode == 2, f"{words} is taken")
+    return ""
+
+
+def witness(lockfs: str) -> str:
+    """Two nodes and a witness: one node goes, and the other one still grants; a second lockfs of a node is refused."""
+    with Nodes(lockfs) as nodes:
+        nodes.start_witness(3)
+        for node in (1, 2):
+            nodes.start(node)
+            nodes.wait_for_grants(node)
+        with open_client(nodes.mount(1) / "witnessed") as holder, open_client(nodes.mount(2) / "witnessed") as waiter:
+            holder.do("lock", 0, "ex", 0, 1)
+            words = nodes.inside(1, lockfs, "--cluster", GROUP, "--witness")
+            second = subprocess.run(["timeout", "20", *words], capture_output=True, text=True, check=False)
+            require(second.returncode == 1 and "another lockfs of this node" in second.stderr, f"a second lockfs of a node: {second}")
+            holder.do("write", 0, "x")
+            waiter.tell("lock", 0, "ex", 0, 1)
+            nodes.kill_corosync(1)
+            require(waiter.answer(30) == "ok", "the lock of the node that died doesn't go over")
+            nodes.servers[3].terminate()
+            require(nodes.servers.pop(3).wait(10) == 0, "the witness doesn't end cleanly")
+            wait_until(lambda: waiter.ask("write", 0, "x") == "EIO", 10, "who has no majority may write")
+    return ""
