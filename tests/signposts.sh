@@ -51,8 +51,8 @@ for name in $(grep -ohE '`(dehokuna|DEHOKUNA)_[A-Za-z_]+`' "$@" | tr -d '`' | so
     look "embedding/ has no $name" grep -rqw "$name" embedding/dehokuna.h embedding/rust/dehokuna-sys
 done
 
-# Of docs/PROOFS.md: each crate with a kind and a name: of each row its calls and clauses, its definitions and its edits, and the key
-# lemmas.
+# Of docs/PROOFS.md: the crates of each heading, with commas between them, with a kind and a name: of each row its calls and clauses, its
+# definitions and its edits, and the key lemmas.
 rows() {
     awk -F'|' '
         function each(cell, kind, form) {
@@ -62,11 +62,19 @@ rows() {
                 cell = substr(cell, RSTART + RLENGTH)
             }
         }
-        /^## `/ { crate = substr($0, 5, length($0) - 5) }
-        NF == 6 { each($3, "call", "."); each($4, "definition", "."); each($5, "edit", ".") }
+        /^## `/ { crate = $0; gsub(/[^a-z_,]/, "", crate) }
+        NF == 5 { each($3, "call", "."); each($4, "definition", "."); each($5, "edit", ".") }
         /^Key lemmas:/ { key = 1 }
         /^$/ { key = 0 }
         key { each($0, "lemma", "^[A-Z][A-Za-z]*[.]") }' docs/PROOFS.md | sort -u
+}
+
+# Whether one of the crates $2, with commas between them, passes the test $1 with the name $3.
+has_one() {
+    for one in $(echo "$2" | tr , ' '); do
+        if "$1" "$one" "$3"; then return 0; fi
+    done
+    return 1
 }
 
 # Whether the crate $1 has the call or the clause $2: a function, a type, a ghost field, a line `ensures`, or a part of the headline.
@@ -78,16 +86,26 @@ has_call() {
 # Whether the crate $1 has the definition $2, FILE or FILE.NAME, of another crate as CRATE/FILE.NAME.
 has_definition() {
     case $2 in */*) set -- "${2%%/*}" "${2#*/}" ;; esac
-    case $2 in *.*) grep -qwF -e "${2#*.}" "crates/$1/specs/${2%%.*}.antt" ;; *) [ -e "crates/$1/specs/$2.antt" ] ;; esac
+    case $2 in *.*) grep -qwF -e "${2#*.}" "crates/$1/specs/${2%%.*}.antt" 2> /dev/null ;; *) [ -e "crates/$1/specs/$2.antt" ] ;; esac
+}
+
+# Whether the crate $1 has the edit $2.
+has_edit() {
+    [ -e "crates/$1/must-fail/$2.edit" ] || [ -e "crates/$1/further-edits/$2.edit" ]
+}
+
+# Whether the crate $1 has the lemma $2, FILE.NAME.
+has_lemma() {
+    grep -rqwF --include="${2%%.*}.antt" -e "${2#*.}" "crates/$1/proofs" "crates/$1/specs" 2> /dev/null
 }
 
 rows > "$rows"
-while read -r crate kind name; do
+while read -r crates kind name; do
     case $kind in
-        call) look "$crate has no call or clause $name" has_call "$crate" "$name" ;;
-        definition) look "$crate has no definition $name" has_definition "$crate" "$name" ;;
-        edit) look "$crate has no edit $name" [ -e "crates/$crate/must-fail/$name.edit" -o -e "crates/$crate/further-edits/$name.edit" ] ;;
-        lemma) look "$crate has no lemma $name" grep -rqwF --include="${name%%.*}.antt" -e "${name#*.}" "crates/$crate/proofs" "crates/$crate/specs" ;;
+        call) look "$crates has no call or clause $name" has_one has_call "$crates" "$name" ;;
+        definition) look "$crates has no definition $name" has_one has_definition "$crates" "$name" ;;
+        edit) look "$crates has no edit $name" has_one has_edit "$crates" "$name" ;;
+        lemma) look "$crates has no lemma $name" has_one has_lemma "$crates" "$name" ;;
     esac
 done < "$rows"
 echo "signposts: $passed passed, $failed failed"
