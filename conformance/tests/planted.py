@@ -129,7 +129,7 @@ FAULTS = (
         (
             ("#include <limits.h>\n", "#include <limits.h>\n#include <poll.h>\n"),
             (
-                "static uint32_t mode_of(short type) {\n",
+                "uint32_t mode_of(short type) {\n",
                 """static struct fuse_session *all_requests;
 
 static uint32_t set_in_two_steps(uint64_t file, uint64_t owner, uint64_t first, uint64_t last, uint32_t mode) {
@@ -146,7 +146,7 @@ static uint32_t set_in_two_steps(uint64_t file, uint64_t owner, uint64_t first, 
     return DEHOKUNA_DONE;
 }
 
-static uint32_t mode_of(short type) {
+uint32_t mode_of(short type) {
 """,
             ),
             ("dehokuna_set(&server, file, info->lock_owner, first, last, mode));\n", "set_in_two_steps(file, info->lock_owner, first, last, mode));\n"),

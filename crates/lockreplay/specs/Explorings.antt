@@ -8,6 +8,8 @@ use Rattle.explore_run.specs.FindingWords.{finding_word, pieces_of}
 use Rattle.explore_run.specs.declared.exploring.Exploring.{Exploring}
 use Rattle.explore_run.specs.declared.exploring.Printed.{Printed}
 use Rattle.explore_run.specs.declared.exploring.Printed.TheVariants.{Table, RunOf}
+use Rattle.range_core.specs.declared.memory.Memory.{Memory}
+use Rattle.replay_core.specs.declared.replays.RunFault.TheVariants as runs
 use Rattle.lockreplay.specs.declared.faults.Fault.{Fault}
 use Rattle.lockreplay.specs.declared.faults.Fault.TheVariants as faults
 use Rattle.lockreplay.specs.declared.options.Misuse.{Misuse}
@@ -40,7 +42,7 @@ IsNoList list = (findings : List Finding) → ¬ AreNamed list findings
 
 -- the fault is want of memory
 abbrev pub IsOfMemory : Fault → Type 0
-IsOfMemory fault = fault ≡ faults.OutOfMemory
+IsOfMemory fault = (memory : Memory) × (fault ≡ faults.Run (runs.Memory memory))
 
 -- the list asks for these findings to fail; or it names none, or a growth was refused
 abbrev pub AreFailures : Option (List ℕ) → Result (Vec Finding Global) Fault → Type 0

@@ -35,11 +35,12 @@ pub enum Fault {
 
 impl From<Memory> for Fault {
     ghost use Rattle.lockreplay.specs.declared.faults.Fault.{Fault};
+    ghost use Rattle.replay_core.specs.declared.replays.RunFault.{RunFault};
 
-    ghost from_gives = { λ memory fault. fault ≡ Fault.OutOfMemory };
+    ghost from_gives = { λ memory fault. fault ≡ Fault.Run (RunFault.Memory memory) };
 
-    fn from(_memory: Memory) -> Fault {
-        Fault::OutOfMemory
+    fn from(memory: Memory) -> Fault {
+        Fault::Run(RunFault::Memory(memory))
     }
 }
 
