@@ -101,11 +101,11 @@ fn of_none(rt: HostRuntime) -> Result<(), Fail> {
     Ok(())
 }
 
-/// A client that sets and removes a lock ten thousand times.
+/// A client that sets and removes a lock a thousand times.
 #[test]
 fn of_many_lines(rt: HostRuntime) -> Result<(), Fail> {
     let mut text = String::new(rt.alloc());
-    for _ in 0..10_000 {
+    for _ in 0..1_000 {
         text.push_str("> 1 set 0 1 w 0 9\n< 1 ok\n> 1 unlock 0 1 0 9\n< 1 ok\n")?;
     }
     let (outcome, told) = judge(rt.alloc(), ORDER, text.as_str().as_bytes(), 100_000)?;
@@ -114,6 +114,6 @@ fn of_many_lines(rt: HostRuntime) -> Result<(), Fail> {
         told.as_slice()
             .starts_with(b"1 behind 1\n1 behind 3\n1 behind 5\n")
     );
-    assert_eq!(rt; told.iter().filter(|byte| **byte == b'\n').count(), 20_000);
+    assert_eq!(rt; told.iter().filter(|byte| **byte == b'\n').count(), 2_000);
     Ok(())
 }
