@@ -2,7 +2,6 @@
 //! on the worked scripts, which stand here, and on others. What lines, entries and reports say is tried on the program
 //! (`tests/lines.sh`, `tests/worked-scripts.sh`), and so are large ones (`tests/large-scripts.sh`).
 mod listed;
-mod listed_machine;
 mod made;
 mod taking;
 mod worked;

@@ -1,11 +1,11 @@
 //! The lock manager against one whose waits are a plain list, request by request: on the worked scripts, and on scripts that are made by a
 //! written rule.
 use super::RULES;
-use super::listed_machine::ListedMachine;
 use super::made::{next_process, next_request};
 use super::taking::script_of;
 use super::worked::ROWS;
 use fd_table::{Access, Limits};
+use listed_machine::ListedMachine;
 use lock_manager::{Errno, FlockOp, LkCmd, Lock, Note, Reply, Request, Rules};
 use range_core::{Kind, Whence};
 use session_core::{Entry, Sequencer};

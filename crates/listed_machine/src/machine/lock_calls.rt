@@ -48,7 +48,7 @@ impl ListedMachine {
     ) -> Result<Told, Refusal>
         requires { (1 ≤ p) × (p ≤ 64) }
     {
-        let look = self.look(p, fd)?;
+        let look = self.opened(p, fd)?;
         let (is_ofd, manner) = parts_of(cmd);
         if is_ofd && lock.pid != 0 || manner == Manner::Asks && lock.kind == Kind::Unlock {
             return Err(Refusal::Errno(Errno::EINVAL));
@@ -110,7 +110,7 @@ impl ListedMachine {
     ) -> Result<Told, Refusal>
         requires { (1 ≤ p) × (p ≤ 64) }
     {
-        let Look { file, desc, .. } = self.look(p, fd)?;
+        let Look { file, desc, .. } = self.opened(p, fd)?;
         let asked = mode_of_operation(op);
         let book = &mut self.books[usize::from(file)];
         if book.flock_mode(desc) == asked {
@@ -134,10 +134,10 @@ impl ListedMachine {
     }
 
     /// What the descriptor refers to: EBADF where it isn't open.
-    fn look(&self, p: u8, fd: u32) -> Result<Look, Refusal>
+    fn opened(&self, p: u8, fd: u32) -> Result<Look, Refusal>
         ensures { IfOk result IsInRange }
     {
-        self.tables.look(p, fd).ok_or(Refusal::Errno(Errno::EBADF))
+        self.look(p, fd).ok_or(Refusal::Errno(Errno::EBADF))
     }
 
     /// Sets the lock, or is refused or waits where something is in the way. A wait for a lock of the process may close no cycle.

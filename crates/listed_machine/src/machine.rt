@@ -1,24 +1,23 @@
-//! A lock manager that does what the rules say of each request and keeps no more than that needs: its waits are a plain list, and who is
-//! blocked is asked anew each time.
+//! The lock manager itself.
 mod lock_calls;
 mod told;
 
-ghost use Rattle.std.specs.Prelude.{◌≡◌, ◌≤◌, ◌<◌, All, IsTrue, vec_len};
-ghost use Rattle.fd_table.specs.TablesView.{ever_alive};
+ghost use Rattle.std.specs.Prelude.{◌≡◌, ◌≤◌, ◌<◌, All, IfSome, IsTrue, vec_len};
+ghost use Rattle.fd_table.specs.TablesView.{IsInRange, ever_alive};
 ghost use Rattle.wait_core.specs.WellFormed.{IsWellFormed};
 
 use self::told::{Refusal, Told};
-use fd_table::Tables;
-use lock_book::{Book, Owner};
+use fd_table::{Look, Tables};
+use lock_book::{Book, Held, Owner};
 use lock_manager::{Errno, Note, Reply, Request, Rules};
 use range_core::Memory;
 use std::alloc::Global;
 use wait_core::{Family, Wait};
 use wait_core_tests::listed::{ListedWaits, empty_books};
 
-/// The descriptors, the locks by file, the waits in order of arrival, and the processes that have ended.
+/// The descriptors, the locks by file, the waits in order of arrival, and the processes that have ended: no more than the rules need.
 #[derive(Drop)]
-pub(super) struct ListedMachine {
+pub struct ListedMachine {
     alloc: Global,
     tables: Tables,
     books: Vec<Book>,
@@ -29,7 +28,7 @@ pub(super) struct ListedMachine {
 
 impl ListedMachine {
     /// Process 1 lives, and there is nothing else.
-    pub(super) fn new(alloc: Global, rules: Rules) -> Result<ListedMachine, Memory> {
+    pub fn new(alloc: Global, rules: Rules) -> Result<ListedMachine, Memory> {
         let processes = rules.limits.processes();
         let tables = Tables::new(alloc, processes, rules.limits)?;
         let books = empty_books(alloc)?;
@@ -43,18 +42,19 @@ impl ListedMachine {
     }
 
     /// Whether a request of the process may be taken: it was born, and neither waits nor has ended.
-    pub(super) fn is_able(&self, p: u8) -> bool
-        ensures { IsTrue result → IsTrue (ever_alive self.now.tables p) }
-    {
+    pub fn is_able(&self, p: u8) -> bool {
         self.is_alive(p) && self.waits.of(p).is_none()
     }
 
     /// What request number `n` of the process tells, with all that it causes: the caller's note, where there is one, then who was
-    /// interrupted or granted a lock, in order.
-    pub(super) fn take(&mut self, p: u8, n: u64, request: Request) -> Result<Vec<Note>, Memory>
-        requires process { (1 ≤ p) × (p ≤ 64) }
-        requires alive { IsTrue (ever_alive self.old.tables p) }
+    /// interrupted or granted a lock, in order. Of a process that doesn't live nothing is taken.
+    pub fn take(&mut self, p: u8, n: u64, request: Request) -> Result<Vec<Note>, Memory>
+        requires { (1 ≤ p) × (p ≤ 64) }
     {
+        let mut notes = Vec::new(self.alloc);
+        if !self.is_alive(p) {
+            return Ok(notes);
+        }
         let mut others = Vec::new(self.alloc);
         let told = match self.serve(p, n, request, &mut others) {
             Ok(told) => told,
@@ -62,12 +62,49 @@ impl ListedMachine {
             Err(Refusal::Memory(memory)) => return Err(memory),
         };
         self.settle(&mut others)?;
-        let mut notes = Vec::new(self.alloc);
         if let Some(note) = told.note(p, n) {
             notes.push(note)?;
         }
         notes.append(&mut others)?;
         Ok(notes)
+    }
+
+    /// Whether the process was born, whatever became of it.
+    pub fn was_born(&self, p: u8) -> bool {
+        self.tables.born(p)
+    }
+
+    /// Whether the process has ended.
+    pub fn has_ended(&self, p: u8) -> bool {
+        self.ended.contains(&p)
+    }
+
+    /// What a descriptor of the process refers to, if it is open.
+    pub fn look(&self, p: u8, fd: u32) -> Option<Look>
+        ensures { IfSome result IsInRange }
+    {
+        self.tables.look(p, fd)
+    }
+
+    /// The size of a file in bytes.
+    pub fn size_of(&self, file: u8) -> u64
+        requires { file < 64 }
+    {
+        self.tables.size_of(file)
+    }
+
+    /// All locks, by file and by owner.
+    pub fn held(&self) -> Result<Vec<Held>, Memory> {
+        let mut held = Vec::new(self.alloc);
+        for file in 0..64u8 {
+            held.append(&mut self.books[usize::from(file)].held(file)?)?;
+        }
+        Ok(held)
+    }
+
+    /// The waits, in order of arrival.
+    pub fn waits(&self) -> &[Wait] {
+        self.waits.list()
     }
 
     /// What the request comes to, but for the settling with which its event ends; what others are told on the way goes to `others`.
@@ -112,7 +149,7 @@ impl ListedMachine {
     fn is_alive(&self, p: u8) -> bool
         ensures { IsTrue result → IsTrue (ever_alive self.now.tables p) }
     {
-        self.tables.born(p) && !self.ended.contains(&p)
+        self.tables.born(p) && !self.has_ended(p)
     }
 
     /// dup2: what the second descriptor was is closed.

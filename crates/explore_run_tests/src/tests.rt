@@ -1,0 +1,233 @@
+//! What is printed of searches whose situations are counted by hand, from the bytes of a script on.
+ghost use Rattle.std.specs.Prelude.{◌≤◌};
+
+use explore_core::Finding;
+use explore_run::{ExploreOutcome, Exploring, Nobody, Printed, explore_script};
+use replay_core::{FromReader, Outcome, ToWriter, check};
+use std::alloc::{AllocError, Global};
+use std::process::Abort;
+use std::test::Fail;
+
+/// What comes of a search of the script, and the text that is printed.
+fn explore(
+    alloc: Global,
+    script: &[u8],
+    limit: usize,
+    printed: Printed,
+    fail_on: &[Finding],
+) -> Result<(ExploreOutcome, Vec<u8>), Fail>
+    requires { 1 ≤ limit }
+{
+    let exploring = Exploring {
+        limit,
+        printed,
+        fail_on: fail_on.to_vec(alloc)?,
+    };
+    let mut source = FromReader::new(script);
+    let mut sink = ToWriter::new(Vec::new(alloc));
+    let outcome = explore_script(alloc, &exploring, &mut source, &mut sink, &Nobody)?;
+    Ok((outcome, sink.into_inner()))
+}
+
+/// Whether the text is a legal journal, with its report where it has one.
+fn is_legal(alloc: Global, text: &[u8]) -> Result<bool, Fail> {
+    let mut source = FromReader::new(text);
+    let mut sink = ToWriter::new(Vec::new(alloc));
+    let outcome = check(alloc, &mut source, &mut sink)?;
+    Ok(matches!(outcome, Outcome::Done))
+}
+
+/// Two processes take two bytes in opposite order, and wait.
+const CROSSED: &[u8] = b"1 open 0 rw
+1 fork 2
+1 setlkw 0 w set 0 1
+1 setlkw 0 w set 1 1
+2 setlkw 0 w set 1 1
+2 setlkw 0 w set 0 1
+";
+
+/// What is printed of it. Three situations come before both are born. Behind these each takes none, one or both bytes: five where nobody
+/// waits, and one where each has one. Where one has both, the other waits, and that is an end. Where each has one, the first to ask waits and
+/// the other one is told `EDEADLK`: two situations more, and two ends, after six events.
+const CROSSED_TOLD: &[u8] = b"deadlock possible in 6 events
+stuck possible in 5 events
+dropped never
+lost never
+busy never
+interrupted never
+killed never
+unborn never
+situations 14
+ends 4
+longest 6
+# deadlock
+1#1 open 0 rw | 1#1 fd 0
+1#2 fork 2 | 1#2 ok
+1#3 setlkw 0 w set 0 1 | 1#3 ok
+2#1 setlkw 0 w set 1 1 | 2#1 ok
+1#4 setlkw 0 w set 1 1 | 1#4 waits
+# 1#4 blocked by lock 0 process 2 w 1 1
+2#2 setlkw 0 w set 0 1 | 2#2 EDEADLK
+# 2#2 would wait for 1 (lock 0 process 1 w 0 0), which waits for 2 (1#4, lock 0 process 2 w 1 1)
+# stuck
+1#1 open 0 rw | 1#1 fd 0
+1#2 fork 2 | 1#2 ok
+1#3 setlkw 0 w set 0 1 | 1#3 ok
+1#4 setlkw 0 w set 1 1 | 1#4 ok
+2#1 setlkw 0 w set 1 1 | 2#1 waits
+# 2#1 blocked by lock 0 process 1 w 0 1
+lock 0 process 1 w 0 1
+wait 2#1 0 process 2 w 1 1
+proc 1 sent 4 taken 4 answered 4 live
+proc 2 sent 2 taken 1 answered 0 waiting
+# 2#2 never taken: process 2 waits
+";
+
+/// Both findings, with a shortest run each, and the counts.
+#[test]
+fn crossed(rt: HostRuntime) -> Result<(), Fail> {
+    let fail_on = [Finding::Dropped, Finding::Deadlock];
+    let (outcome, text) = explore(rt.alloc(), CROSSED, 14, Printed::Table, &fail_on)?;
+    assert_eq!(rt; text.as_slice(), CROSSED_TOLD);
+    assert_eq!(rt; outcome, ExploreOutcome::Found);
+    assert_eq!(rt; outcome.status(), 3);
+    Ok(())
+}
+
+/// Nothing is found that is to fail: status 0.
+#[test]
+fn nothing_fails(rt: HostRuntime) -> Result<(), Fail> {
+    let fail_on = [Finding::Lost, Finding::Busy];
+    let (outcome, text) = explore(rt.alloc(), CROSSED, 1000, Printed::Table, &fail_on)?;
+    assert_eq!(rt; text.as_slice(), CROSSED_TOLD);
+    assert_eq!(rt; outcome.status(), 0);
+    Ok(())
+}
+
+/// What is printed first where five situations are kept: the three at first, and those where one process has a byte. A finding takes five
+/// events at least.
+const LIMITED_TOLD: &[u8] = b"deadlock not found in 5 situations
+stuck not found in 5 situations
+dropped not found in 5 situations
+lost not found in 5 situations
+busy not found in 5 situations
+interrupted not found in 5 situations
+killed not found in 5 situations
+unborn not found in 5 situations
+situations 5
+";
+
+/// Where the limit is reached, nothing is told as never, and the status is 4.
+#[test]
+fn limited(rt: HostRuntime) -> Result<(), Fail> {
+    let fail_on = [Finding::Deadlock];
+    let (outcome, text) = explore(rt.alloc(), CROSSED, 5, Printed::Table, &fail_on)?;
+    assert!(rt; text.as_slice().starts_with(LIMITED_TOLD));
+    assert_eq!(rt; outcome.status(), 4);
+    Ok(())
+}
+
+/// A finding's run alone is a legal journal, and there is none of a finding that isn't possible.
+#[test]
+fn runs_alone(rt: HostRuntime) -> Result<(), Fail> {
+    for (finding, lines) in [(Finding::Deadlock, 10), (Finding::Stuck, 13)] {
+        let (_, text) = explore(rt.alloc(), CROSSED, 1000, Printed::RunOf(finding), &[])?;
+        assert!(rt;
+            text.as_slice()
+                .starts_with(b"policy held\nlimits small\n1#1 open 0 rw ")
+        );
+        assert_eq!(rt; text.iter().filter(|byte| **byte == b'\n').count(), lines);
+        assert!(rt; is_legal(rt.alloc(), &text)?);
+    }
+    let (_, text) = explore(
+        rt.alloc(),
+        CROSSED,
+        1000,
+        Printed::RunOf(Finding::Lost),
+        &[],
+    )?;
+    assert!(rt; text.is_empty());
+    Ok(())
+}
+
+/// Process 1 locks a byte 400 times and process 2 another one three times, and nobody forks process 3.
+fn long_script(alloc: Global) -> Result<String, AllocError> {
+    let mut script = String::new(alloc);
+    script.push_str("1 open 0 rw\n1 fork 2\n3 exit\n")?;
+    for _ in 0..400u32 {
+        script.push_str("1 setlk 0 w set 0 1\n")?;
+    }
+    script.push_str("2 setlk 0 w set 1 1\n2 setlk 0 w set 1 1\n2 setlk 0 w set 1 1\n")?;
+    Ok(script)
+}
+
+/// What is printed of it before the events: two situations come before both are born, and 401 * 4 behind that, for each is as far as it may
+/// be, whatever the other one does. All runs end in one, behind 2 + 400 + 3 events.
+const LONG_TABLE: &str = "deadlock never
+stuck never
+dropped never
+lost never
+busy never
+interrupted never
+killed never
+unborn possible in 405 events
+situations 1606
+ends 1
+longest 405
+# unborn
+";
+
+/// What is printed behind the events.
+const LONG_END: &str = "lock 0 process 1 w 0 0
+lock 0 process 2 w 1 1
+proc 1 sent 402 taken 402 answered 402 live
+proc 2 sent 3 taken 3 answered 3 live
+proc 3 sent 1 taken 0 answered 0 unborn
+# 3#1 never taken: process 3 was never born
+";
+
+/// Appends the events of the least run, in which process 1 takes all that it can before process 2 does, and its end.
+fn push_long_run(text: &mut String) -> Result<(), AllocError> {
+    text.push_str("1#1 open 0 rw | 1#1 fd 0\n1#2 fork 2 | 1#2 ok\n")?;
+    for n in 3..403u32 {
+        write!(text, "1#{n} setlk 0 w set 0 1 | 1#")?;
+        writeln!(text, "{n} ok")?;
+    }
+    for n in 1..4u32 {
+        write!(text, "2#{n} setlk 0 w set 1 1 | 2#")?;
+        writeln!(text, "{n} ok")?;
+    }
+    text.push_str(LONG_END)
+}
+
+/// A search with many situations, whose text is long.
+#[test]
+fn long(rt: HostRuntime) -> Result<(), Fail> {
+    let script = long_script(rt.alloc())?;
+    let mut due = String::from_str(rt.alloc(), LONG_TABLE)?;
+    push_long_run(&mut due)?;
+    let fail_on = [Finding::Unborn];
+    let (outcome, text) = explore(
+        rt.alloc(),
+        script.as_bytes(),
+        10_000,
+        Printed::Table,
+        &fail_on,
+    )?;
+    assert!(rt; text.as_slice() == due.as_bytes());
+    assert_eq!(rt; outcome.status(), 3);
+    Ok(())
+}
+
+/// The long run alone, behind header lines.
+#[test]
+fn long_run_alone(rt: HostRuntime) -> Result<(), Fail> {
+    let script = long_script(rt.alloc())?;
+    let mut due = String::from_str(rt.alloc(), "policy held\nlimits small\n")?;
+    push_long_run(&mut due)?;
+    let printed = Printed::RunOf(Finding::Unborn);
+    let (_, text) = explore(rt.alloc(), script.as_bytes(), 10_000, printed, &[])?;
+    assert!(rt; text.as_slice() == due.as_bytes());
+    assert!(rt; is_legal(rt.alloc(), &text)?);
+    Ok(())
+}
