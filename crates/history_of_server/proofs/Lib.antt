@@ -1,0 +1,13 @@
+-- Lemmas.
+pub mod ListLemmas
+pub mod WorldLemmas
+pub mod PartLemmas
+pub mod BlockLemmas
+pub mod TrackLemmas
+pub mod FollowLemmas
+pub mod CallLemmas
+pub mod CallLaws
+pub mod StripLemmas
+pub mod ClientLaws
+pub mod ForgetLaws
+pub mod ServerLaws
