@@ -13,6 +13,7 @@ from tests import planted, second_opinion
 from torture.history import LARGEST_OFFSET, Manner, Writer
 from torture.judging import HistoryJudge, Verdict, shorten
 from torture.log import Call, Log, Process, Record
+from torture.outages import Outage
 
 
 def opened(start: int, end: int, descriptor: int, file: int = 0) -> Record:
@@ -319,6 +320,78 @@ def is_legal(requests: list[second_opinion.Request], up_to: int) -> bool:
         return (not request.needs_effect or state.done(request) in (1, 3)) and goes(place + 1, state.without(request))
 
     return goes(0, second_opinion.State())
+
+
+class Outages(unittest.TestCase):
+    """Histories of two mounts, of which the second one dies at 100, is known to be away at 110, purged from 190 to 200 and back at 210; from 90 to 300
+    there is unrest. Processes are on the first one and the second one by turns."""
+
+    OUTAGE = Outage(1, 100, 110, 190, 200, 210, ((90, 300),))
+
+    def assert_history(self, processes: list[Process], *lines: str, ended_at: int = 400) -> None:
+        written = Writer(Log(ended_at, processes), Manner(releases_late=True), 2, [self.OUTAGE]).write()
+        self.assertEqual(written.splitlines(), list(lines))
+
+    def test_locks_go_with_the_purge(self) -> None:
+        dies = process(8, opened(1, 2, 3), bytes_of(Call.SET, 3, 4), waited_at=120)
+        # Somebody on the other mount shows the times.
+        sees = process(7, opened(1, 2, 3, file=1), *[bytes_of(Call.SET, time, time, -errno.EAGAIN) for time in (101, 189, 199, 201)])
+        looks = [f"{sign} {number} {what}" for number in range(4) for sign, what in ((">", "set 1 1 w 0 9"), ("<", "busy"))]
+        lines = ["> 4 set 0 2 w 0 9", "< 4 ok", *looks[:4], "> 5 gone 0 2", *looks[4:6], "< 5 ok", *looks[6:]]
+        self.assert_history([sees, dies], *lines)
+
+    def test_locks_of_descriptions_go_with_it_too(self) -> None:
+        dies = process(8, opened(1, 2, 3), flocked(3, 4, "x"), waited_at=120)
+        self.assert_history([process(7), dies], "> 0 flock 0 1001 ex", "< 0 ok", "> 1 gone 0 1001", "< 1 ok")
+
+    def test_a_process_that_ended_before_may_have_let_go(self) -> None:
+        ends = process(8, opened(1, 2, 3), bytes_of(Call.SET, 3, 4), exits_at=105, waited_at=120)
+        sees = process(7, opened(1, 2, 3, file=1), bytes_of(Call.SET, 107, 108))
+        self.assert_history([sees, ends], "> 1 set 0 2 w 0 9", "< 1 ok", "> 2 gone 0 2", "> 0 set 1 1 w 0 9", "< 0 ok", "< 2 ok")
+
+    def test_a_purge_that_is_under_way_at_the_end_leaves_the_death_open(self) -> None:
+        dies = process(8, opened(1, 2, 3), bytes_of(Call.SET, 3, 4), waited_at=120)
+        self.assert_history([process(7), dies], "> 0 set 0 2 w 0 9", "< 0 ok", "> 1 gone 0 2", ended_at=195)
+
+    def test_a_request_in_which_the_mount_dies_may_have_its_effect_until_the_purge(self) -> None:
+        dies = process(8, opened(1, 2, 3), bytes_of(Call.SET, 95, 105, -errno.ENOTCONN), waited_at=120)
+        self.assert_history([process(7), dies], "> 0 set 0 2 w 0 9", "> 1 gone 0 2", "< 0 error", "< 1 ok")
+
+    def test_who_ends_behind_the_purge_has_let_go_by_then(self) -> None:
+        ends = process(8, opened(1, 2, 3), bytes_of(Call.SET, 3, 4), flocked(5, 6, "x"), closed(250, 251, 3), exits_at=252, waited_at=253)
+        lines = ["> 0 set 0 2 w 0 9", "< 0 ok", "> 1 flock 0 1001 ex", "< 1 ok", "> 3 close 0 1001", "< 3 ok", "> 2 close 0 2", "< 2 ok"]
+        self.assert_history([process(7), ends], *lines)
+
+    def test_a_wait_that_was_cut_off_waits_no_more(self) -> None:
+        dies = process(8, opened(1, 2, 3), bytes_of(Call.WAIT, 95, None), waited_at=120)
+        self.assert_history([process(7), dies], "> 0 wait 0 2 w 0 9", "< 0 error", ended_at=150)
+
+    def test_a_request_behind_the_death_has_none(self) -> None:
+        dies = process(8, opened(1, 2, 3), bytes_of(Call.SET, 111, 112, -errno.ENOTCONN), waited_at=120)
+        self.assert_history([process(7), dies], "> 0 gone 0 2", "< 0 ok")
+
+    def test_a_forked_process_is_on_its_parents_mount(self) -> None:
+        parent = process(8, opened(1, 2, 3), Record(Call.FORK, 3, 4, 9, number=2), waited_at=5, exits_at=5)
+        child = process(9, bytes_of(Call.SET, 6, 7), parent=1, forked_by=1, waited_at=120)
+        self.assert_history([process(7), parent, child], "> 0 set 0 3 w 0 9", "< 0 ok", "> 1 gone 0 3", "< 1 ok")
+
+    def test_a_release_near_the_death_may_be_told_late(self) -> None:
+        held = [opened(1, 2, 3), bytes_of(Call.SET, 3, 4), bytes_of(Call.UNLOCK, 92, 93), bytes_of(Call.SET, 94, 96)]
+        other = process(10, opened(1, 2, 3, file=1), bytes_of(Call.SET, 94, 95))
+        # What the same mount was told behind it shows that it was told; what another mount was doesn't.
+        lines = ["> 0 set 0 1 w 0 9", "< 0 ok", "> 1 unlock 0 1 0 9", "> 2 set 0 1 w 0 9", "> 3 set 1 4 w 0 9", "< 3 ok", "< 1 ok", "< 2 ok"]
+        lines += ["> 4 gone 1 4", "< 4 ok"]
+        self.assert_history([process(7, *held), process(8), process(9), other], *lines)
+
+    def test_a_release_with_nothing_told_behind_it_lasts_until_all_is_at_rest(self) -> None:
+        held = [opened(1, 2, 3), bytes_of(Call.SET, 3, 4), bytes_of(Call.UNLOCK, 92, 93)]
+        late = process(9, opened(1, 2, 3, file=1), bytes_of(Call.SET, 299, 301, -errno.EAGAIN), bytes_of(Call.SET, 302, 303))
+        lines = ["> 0 set 0 1 w 0 9", "< 0 ok", "> 1 unlock 0 1 0 9", "> 2 set 1 3 w 0 9", "< 1 ok", "< 2 busy", "> 3 set 1 3 w 0 9", "< 3 ok"]
+        self.assert_history([process(7, *held), process(8), late], *lines)
+
+    def test_a_release_long_before_is_as_it_was_answered(self) -> None:
+        held = [opened(1, 2, 3), bytes_of(Call.SET, 3, 4), bytes_of(Call.UNLOCK, 50, 51)]
+        self.assert_history([process(7, *held)], "> 0 set 0 1 w 0 9", "< 0 ok", "> 1 unlock 0 1 0 9", "< 1 ok")
 
 
 class SecondOpinion(unittest.TestCase):

@@ -1,11 +1,11 @@
 /* The clients of locktorture: processes that race for locks, and note in memory that outlives them what they asked and what they were
  * answered.
  *
- *   client LOG SLOTS RECORDS CLIENTS PATIENCE KINDS TIDY FOLDER..
+ *   client LOG SLOTS RECORDS CLIENTS PATIENCE KINDS TIDY MADE_IN FOLDER..
  *
  * LOG is a file of zeros that is mapped by all, with room for so many processes and so many records of each; PATIENCE is in milliseconds,
- * KINDS `fcntl`, `flock` or `both`; TIDY of a hundred closes let go of the description's locks before; and each FOLDER is the same one, as a
- * mount of its own has it. For each line `SEED REQUESTS` of standard input a round is run, on new files, and answered by a line: `quiet` where
+ * KINDS `fcntl`, `flock` or `both`; TIDY of a hundred closes let go of the description's locks before; files are made in MADE_IN; and each
+ * FOLDER is the same one, as a mount of its own has it. For each line `SEED REQUESTS` of standard input a round is run, on new files, and answered by a line: `quiet` where
  * all clients have ended, `stuck` where those that are left did nothing for so long (they are killed then).
  *
  * This process is the keeper: it starts clients, kills some, and waits for all of them, also for those that a client forks. */
@@ -96,7 +96,7 @@ struct client {
     bool may_hold[FILES]; /* traditional locks */
 };
 
-static const char **folders;
+static const char **folders, *made_in;
 static int folder_count, client_count, tidy;
 static bool by_fcntl, by_flock;
 
@@ -514,7 +514,7 @@ static bool keep(struct round *round, uint64_t patience) {
 static void make_files(void) {
     char path[4096];
     for (int file = 0; file < FILES; file++) {
-        path_of(path, folders[0], file);
+        path_of(path, made_in, file);
         unlink(path);
         int descriptor = open(path, O_RDWR | O_CREAT | O_EXCL | O_CLOEXEC, 0600);
         if (descriptor < 0) {
@@ -556,8 +556,8 @@ static bool map_log(const char *path, uint32_t slots, uint32_t records) {
 }
 
 int main(int count, char **words) {
-    if (count < 9 || !map_log(words[1], (uint32_t)atoi(words[2]), (uint32_t)atoi(words[3]))) {
-        fprintf(stderr, "usage: client LOG SLOTS RECORDS CLIENTS PATIENCE KINDS TIDY FOLDER..\n");
+    if (count < 10 || !map_log(words[1], (uint32_t)atoi(words[2]), (uint32_t)atoi(words[3]))) {
+        fprintf(stderr, "usage: client LOG SLOTS RECORDS CLIENTS PATIENCE KINDS TIDY MADE_IN FOLDER..\n");
         return 2;
     }
     client_count = atoi(words[4]);
@@ -565,8 +565,9 @@ int main(int count, char **words) {
     by_fcntl = strcmp(words[6], "flock") != 0;
     by_flock = strcmp(words[6], "fcntl") != 0;
     tidy = atoi(words[7]);
-    folders = (const char **)words + 8;
-    folder_count = count - 8;
+    made_in = words[8];
+    folders = (const char **)words + 9;
+    folder_count = count - 9;
     prctl(PR_SET_PDEATHSIG, SIGKILL);
     sigaction(SIGALRM, &(struct sigaction){.sa_handler = do_nothing}, NULL);
     setvbuf(stdout, NULL, _IOLBF, 0);

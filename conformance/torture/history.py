@@ -9,9 +9,10 @@ from __future__ import annotations
 import errno
 from collections import Counter
 from dataclasses import dataclass, field
-from typing import Optional
+from typing import Optional, Sequence
 
 from torture.log import Call, Log, Process, Record
+from torture.outages import Outage, put_off
 
 LARGEST_OFFSET = 2**63 - 1
 # Owners: a process is its slot and 1, the descriptions are counted from here, and a pid that is nobody's of ours comes behind.
@@ -31,23 +32,26 @@ class Manner:
 
 @dataclass
 class Request:
-    """A request of the history. Without an end it is open to the end; `is_last` puts its answer behind all others."""
+    """A request of the history. Without an end it is open to the end; `is_last` puts its answer behind all others. `mount` is the number of the mount
+    that it was asked on."""
 
     text: str
     start: int
     end: Optional[int] = None
     answer: str = ""
     is_last: bool = False
+    mount: int = 0
 
 
 @dataclass
 class Drop:
-    """A reference to a description goes: the times between which it does (no end: it may not have gone yet), and whether by a process's
-    death."""
+    """A reference to a description goes: the times between which it does (no end: it may not have gone yet), whether by a process's death, and
+    whether its mount dies with it."""
 
     start: int
     end: Optional[int]
     by_death: bool
+    by_outage: bool = False
 
 
 @dataclass
@@ -79,11 +83,12 @@ class Holding:
 
 @dataclass
 class Description:
-    """An open file description: its number, its file, the references that are left, those that went, and what it may hold by flock (True) and of
-    OFD locks (False)."""
+    """An open file description: its number, its file and the mount's, the references that are left, those that went, and what it may hold by flock
+    (True) and of OFD locks (False)."""
 
     number: int
     file: int
+    mount: int
     references: int = 0
     drops: list[Drop] = field(default_factory=list)
     holding: dict[bool, Holding] = field(default_factory=lambda: {True: Holding(), False: Holding()})
@@ -96,11 +101,13 @@ Table = dict[int, Description]
 
 
 class Writer:
-    """Writes the history of one round. `odd` counts the answers that are `error`, by call and error number."""
+    """Writes the history of one round, on so many mounts, some of which die. `odd` counts the answers that are `error`, by call and error number."""
 
-    def __init__(self, log: Log, manner: Manner) -> None:
+    def __init__(self, log: Log, manner: Manner, mounts: int = 1, outages: Sequence[Outage] = ()) -> None:
         self.log = log
         self.manner = manner
+        self.mounts = mounts
+        self.outages = outages
         self.requests: list[Request] = []
         self.descriptions: list[Description] = []
         self.tables_at_fork: dict[int, Table] = {}
@@ -114,6 +121,8 @@ class Writer:
                 ProcessWriter(self, slot, process).write()
         for description in self.descriptions:
             self.write_release(description)
+        if self.outages:
+            self.requests = put_off(self.requests, self.outages, self.log.ended_at)
         return text_of(self.requests)
 
     def write_release(self, description: Description) -> None:
@@ -122,12 +131,13 @@ class Writer:
             return
         last = max(description.drops, key=lambda drop: drop.start)
         ends = [drop.end for drop in description.drops]
-        end = None if None in ends else self.log.ended_at if self.manner.releases_late else max(filter(None, ends))
+        is_late = self.manner.releases_late and not last.by_outage
+        end = None if None in ends else self.log.ended_at if is_late else max(filter(None, ends))
         for is_flock in (False, True):
             if description.holding[is_flock].may_hold():
                 word = "gone" if last.by_death else "close"
                 text = f"{word} {description.file} {description.owner(is_flock)}"
-                self.requests.append(Request(text, last.start, end, "ok", self.manner.releases_late))
+                self.requests.append(Request(text, last.start, end, "ok", is_late, description.mount))
 
     def owner_of_pid(self, pid: int) -> str:
         """Whose lock a get tells by a pid: none is told of a description, nor by a file system whose pids aren't the machine's."""
@@ -144,6 +154,8 @@ class ProcessWriter:
         self.slot = slot
         self.process = process
         self.owner = slot + 1
+        self.mount = writer.log.mount_of(slot, writer.mounts)
+        self.outage = next((each for each in writer.outages if each.ends(self.mount, process)), None)
         self.table: Table = {}
         self.holding: dict[int, Holding] = {}
 
@@ -153,15 +165,15 @@ class ProcessWriter:
             self.refer(descriptor, description)
         for record in self.process.records:
             self.write_call(record)
-        times = (self.process.exits_at, self.process.killed_at, self.process.waited_at)
-        if any(times):
-            self.write_death(min(filter(None, times)), self.process.waited_at)
+        times = [time for time in (self.process.exits_at, self.process.killed_at, self.process.waited_at) if time]
+        if times or self.outage:
+            self.write_death(*self.going(min(times, default=self.writer.log.ended_at), self.process.waited_at))
 
     def write_call(self, record: Record) -> None:
         """Writes one call."""
         done = record.end is not None and record.result >= 0
         if record.call == Call.OPEN and done:
-            self.writer.descriptions.append(Description(len(self.writer.descriptions), record.number))
+            self.writer.descriptions.append(Description(len(self.writer.descriptions), record.number, self.mount))
             self.refer(record.result, self.writer.descriptions[-1])
         elif record.call == Call.DUP and done:
             self.refer(record.result, self.table[record.descriptor])
@@ -181,6 +193,13 @@ class ProcessWriter:
         self.table[descriptor] = description
         description.references += 1
 
+    def going(self, start: int, end: Optional[int]) -> tuple[int, Optional[int], bool]:
+        """The times between which others see something go that goes between these here, and whether that is by the mount's death."""
+        if self.outage is None or (end is not None and end <= self.outage.began):
+            return start, end, False
+        begins = start if start <= self.outage.died else self.outage.purging
+        return begins, self.outage.purged if self.outage.purged <= self.writer.log.ended_at else None, True
+
     def write_dup2(self, record: Record) -> None:
         """The target is closed, and is a descriptor of the other description. (Where the process died in the call, the other is dropped
         then anyhow.)"""
@@ -192,7 +211,8 @@ class ProcessWriter:
         """A descriptor is closed: the process's locks on the file go, and a reference to the description."""
         description = self.table.pop(descriptor)
         description.references -= 1
-        description.drops.append(Drop(record.start, self.process.waited_at if record.end is None else record.end, False))
+        start, end, by_outage = self.going(record.start, self.process.waited_at if record.end is None else record.end)
+        description.drops.append(Drop(start, end, False, by_outage))
         holding = self.holding_on(description.file)
         if holding.may_hold():
             holding.note(record, self.add(record, f"close {description.file} {self.owner}", "ok"), releases=True)
@@ -248,16 +268,16 @@ class ProcessWriter:
             answer = ""
         elif end is None:
             answer, end = "error", self.process.waited_at
-        self.writer.requests.append(Request(text, record.start, end, answer))
+        self.writer.requests.append(Request(text, record.start, end, answer, mount=self.mount))
         return answer
 
-    def write_death(self, start: int, end: Optional[int]) -> None:
+    def write_death(self, start: int, end: Optional[int], by_outage: bool) -> None:
         """The process dies: its locks go on each file, and its references to descriptions."""
         for file in sorted(file for file, holding in self.holding.items() if holding.may_hold()):
-            self.writer.requests.append(Request(f"gone {file} {self.owner}", start, end, "ok"))
+            self.writer.requests.append(Request(f"gone {file} {self.owner}", start, end, "ok", mount=self.mount))
         for description in self.table.values():
             description.references -= 1
-            description.drops.append(Drop(start, end, True))
+            description.drops.append(Drop(start, end, True, by_outage))
 
 
 def text_of(requests: list[Request]) -> str:

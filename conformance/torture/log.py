@@ -74,6 +74,11 @@ class Log:
     ended_at: int
     processes: list[Process]
 
+    def mount_of(self, slot: int, mounts: int) -> int:
+        """On which of so many mounts a process runs: the first of its ancestors was begun there, in the order of slots."""
+        parent = self.processes[slot].parent
+        return slot % mounts if parent is None else self.mount_of(parent, mounts)
+
 
 Bytes = Union[bytes, memoryview]
 
@@ -115,8 +120,9 @@ def read_process(log: Bytes, at: int, ended_at: int) -> Process:
     return Process(pid, records, parent if parent >= 0 else None, forked_by, *times, status)
 
 
-def read_log(log: Bytes) -> Log:
-    """Reads a round that is over."""
+def read_log(log: Bytes, now: int = 0) -> Log:
+    """Reads a round that is over, or one that runs, as far as it has come."""
     ended_at, slots_there, records_there, slots, _ = HEADER.unpack_from(log, 0)
+    ended_at = ended_at or now
     size = PROCESS.size + records_there * RECORD.size
     return Log(ended_at, [read_process(log, HEADER_SIZE + slot * size, ended_at) for slot in range(min(slots, slots_there))])

@@ -63,10 +63,12 @@ def compile_clients(to: Path) -> None:
 
 
 class Keeper:
-    """The keeper and its clients, in a folder of its own on the file system, which each directory shows. As a `with`."""
+    """The keeper and its clients, in a folder of its own on the file system, which each directory shows. As a `with`. The files are made by way of
+    `made_in`, a directory as they are, or else of the first of them."""
 
-    def __init__(self, directories: list[Path], plan: Plan) -> None:
+    def __init__(self, directories: list[Path], plan: Plan, made_in: Optional[Path] = None) -> None:
         self.directories = directories
+        self.made_in = made_in or directories[0]
         self.plan = plan
         self.hangs = False
         self.work = Path(tempfile.mkdtemp(prefix=FOLDER_PREFIX, dir=MEMORY if MEMORY.is_dir() else None))
@@ -88,7 +90,7 @@ class Keeper:
     def start(self) -> None:
         """Makes the folder and the log, and starts the keeper."""
         compile_clients(self.work / "client")
-        self.folder = Path(tempfile.mkdtemp(prefix=FOLDER_PREFIX, dir=self.directories[0]))
+        self.folder = Path(tempfile.mkdtemp(prefix=FOLDER_PREFIX, dir=self.made_in))
         folders = [directory / self.folder.name for directory in self.directories]
         if hidden := [str(folder) for folder in folders if not folder.is_dir()]:
             raise CouldNotRun(f"the directories aren't mounts of one folder: {hidden[0]} isn't there")
@@ -97,7 +99,8 @@ class Keeper:
             file.truncate(size)
             self.memory = mmap.mmap(file.fileno(), size)
         numbers = [self.plan.slots, self.plan.records, self.plan.clients, round(self.plan.patience * 1000)]
-        words = [str(self.work / "client"), str(self.work / "log"), *map(str, numbers), self.plan.kinds, str(self.plan.tidy), *map(str, folders)]
+        words = [str(self.work / "client"), str(self.work / "log"), *map(str, numbers), self.plan.kinds, str(self.plan.tidy)]
+        words += [str(self.folder), *map(str, folders)]
         self.process = subprocess.Popen(words, stdin=subprocess.PIPE, stdout=subprocess.PIPE, stderr=subprocess.PIPE, start_new_session=True)
 
     def run(self, seed: int) -> log.Log:
@@ -113,9 +116,13 @@ class Keeper:
         with memoryview(self.memory) as noted:
             read = log.read_log(noted)
         for process in read.processes:
-            if process.pid and process.status not in (0, signal.SIGKILL):
+            if process.pid and not self.may_end_so(process):
                 raise CouldNotRun(f"client {process.pid} ended by status {process.status}: {failed_call(process)}")
         return read
+
+    def may_end_so(self, process: log.Process) -> bool:
+        """Whether a client may end by the status by which it did."""
+        return process.status in (0, signal.SIGKILL)
 
     def why_it_ended(self) -> str:
         """What the keeper says on standard error, and by which status it ended."""

@@ -2,10 +2,12 @@
 
 from __future__ import annotations
 
+import contextlib
 import os
 import signal
 import subprocess
 import time
+from typing import Iterator
 
 from clustertest.client import Client, open_client
 from clustertest.nodes import DETECTION_S, GRACE_MS, Nodes, require, wait_until
@@ -102,15 +104,23 @@ def partition(nodes: Nodes) -> str:
     return f"EIO {over - lost:.3f} s before the lock went over"
 
 
+@contextlib.contextmanager
+def busy(nodes: Nodes, node: int) -> Iterator[None]:
+    """Meanwhile a process of the node locks and unlocks without a pause, as long as it isn't told EIO."""
+    with subprocess.Popen([os.environ["LOOP"], nodes.mount(node) / "busy"], stdout=subprocess.DEVNULL) as loop:
+        try:
+            yield
+        finally:
+            loop.kill()
+
+
 def split(nodes: Nodes) -> str:
-    """All nodes are cut off from each other, nobody grants; joined again at once, locks and waits stand. Where two of them find each other before the
-    third one does, that one has lost its locks, and is told."""
-    with open_client(nodes.mount(1) / "split") as holder, open_client(nodes.mount(2) / "split") as waiter, open_client(nodes.mount(3) / "busy") as busy:
+    """All nodes are cut off from each other, one of them busy, nobody grants; joined again at once, locks and waits stand. Where two of them find each
+    other before the third one does, that one has lost its locks, and is told."""
+    with open_client(nodes.mount(1) / "split") as holder, open_client(nodes.mount(2) / "split") as waiter, busy(nodes, 3):
         holder.do("lock", 0, "ex", 0, 1)
         waiter.tell("lock", 0, "ex", 0, 1)
-        for _ in range(200):
-            busy.do("lock", 0, "ex", 0, 1)
-            busy.do("lock", 0, "un", 0, 1)
+        time.sleep(0.5)
         for node in nodes.all():
             nodes.cut(node)
         time.sleep(DETECTION_S + 1)

@@ -186,16 +186,3 @@ def fuse_test(nodes: Nodes) -> str:
     lines = ran.stdout.splitlines()
     require(ran.returncode == 0, "\n".join(line for line in lines + ran.stderr.splitlines() if not line.startswith("ok")))
     return lines[-1]
-
-
-def torture_judged(nodes: Nodes, seconds: int = 20) -> str:
-    """Processes race for locks on the three mounts, and lockreplay finds a legal order of what they were told."""
-    if "LOCKREPLAY" not in os.environ:
-        return "# skip no LOCKREPLAY"
-    program = Path(__file__).resolve().parent.parent.parent / "conformance" / "locktorture"
-    places = [nodes.mount(node) / "torture" for node in nodes.all()]
-    places[0].mkdir()
-    words = [sys.executable, program, "--seconds", seconds, "--clients", 9, *places]
-    ran = subprocess.run([str(word) for word in words], capture_output=True, text=True, check=False, timeout=300)
-    require(ran.returncode == 0, f"status {ran.returncode}: {ran.stdout[-1500:]}{ran.stderr[-500:]}")
-    return f"{ran.stdout.count('ok ')} rounds"

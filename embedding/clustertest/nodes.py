@@ -78,15 +78,19 @@ def call(*words: object) -> None:
 class Nodes:
     """The nodes from 1 on; as a `with`, behind which nothing is left."""
 
+    # Of all nodes: what their namespaces' names begin with, their folders, and corosyncs that have ended.
+    prefix = f"dk{os.getpid() % 100000}n"
+    works: list[Path] = []
+    ended: list[int] = []
+
     def __init__(self, lockfs: str, count: int = 3, transport: str = "knet", numbers: Optional[dict[int, int]] = None, realtime: bool = True) -> None:
         self.lockfs, self.count, self.transport, self.realtime = lockfs, count, transport, realtime
         self.numbers = numbers or {}
         self.work = Path(tempfile.mkdtemp(prefix="cluster-test-", dir=MEMORY))
         self.folder = self.work / "folder"
-        self.prefix = f"dk{os.getpid() % 100000}n"
         self.corosyncs: dict[int, subprocess.Popen[bytes]] = {}
         self.servers: dict[int, subprocess.Popen[bytes]] = {}
-        self.ended: list[int] = []
+        self.works.append(self.work)
 
     def __enter__(self) -> Nodes:
         self.folder.mkdir()

@@ -30,6 +30,31 @@ def refusals(lockfs: str) -> str:
     return ""
 
 
+class Divided(Nodes):
+    """Nodes of which the last one is configured with two votes of its own, which the others don't know of."""
+
+    def configuration(self, node: int) -> str:
+        """The node's corosync.conf."""
+        last = f"nodeid: {self.count}\n"
+        return super().configuration(node).replace(last, f"{last}    quorum_votes: 2\n" if node == self.count else last)
+
+    def is_quorate(self, node: int) -> bool:
+        """Whether the node's corosync sees all nodes."""
+        ran = subprocess.run(self.inside(node, "timeout", "5", "corosync-quorumtool", "-s"), capture_output=True, text=True, check=False)
+        return f"Nodes:            {self.count}" in ran.stdout
+
+
+def votes_differ(lockfs: str) -> str:
+    """Members whose configurations have other votes come to no view, and the log says why."""
+    with Divided(lockfs) as nodes:
+        for node in nodes.all():
+            nodes.start(node)
+        for node in nodes.all():
+            wait_until(lambda: "no view: votes" in nodes.told(node), 20, f"the log of node {node} doesn't tell that votes differ")
+        require(not any(nodes.grants(node) for node in nodes.all()), "a node grants that has no view")
+    return ""
+
+
 def witness(lockfs: str) -> str:
     """Two nodes and a witness: one node goes, and the other one still grants; a second lockfs of a node is refused."""
     with Nodes(lockfs) as nodes:

@@ -13,8 +13,8 @@ import traceback
 from pathlib import Path
 from typing import Callable, Iterator
 
-from clustertest import faults, locks, refusals, torture
-from clustertest.nodes import GRACE_MS, Failed, Nodes
+from clustertest import faults, judged, locks, refusals, schedules, torture
+from clustertest.nodes import GRACE_MS, MEMORY, Failed, Nodes, require
 
 # In the order in which they run on the same three nodes.
 STEPS: dict[str, Callable[[Nodes], str]] = {
@@ -26,7 +26,7 @@ STEPS: dict[str, Callable[[Nodes], str]] = {
     "list": locks.lists,
     "sqlite": locks.sqlite,
     "latency": locks.latency,
-    "locktorture": locks.torture_judged,
+    "locktorture": judged.race,
     "fuse-test": locks.fuse_test,
     "join-under-load": locks.join_under_load,
     "death-of-lockfs": faults.death_of_lockfs,
@@ -44,12 +44,15 @@ STEPS: dict[str, Callable[[Nodes], str]] = {
     "corosync-hangs": faults.corosync_hangs,
     "fence": faults.fence,
     "lone": faults.lone,
+    "locktorture-while-nodes-die": judged.race_while_nodes_die,
     "torture": torture.torture,
 }
 # On nodes of their own.
 ALONE: dict[str, Callable[[str], str]] = {
     "refusals": refusals.refusals,
+    "votes-differ": refusals.votes_differ,
     "witness": refusals.witness,
+    "five-nodes": schedules.on_five_nodes,
 }
 PACKAGES = {"corosync": "corosync", "corosync-quorumtool": "corosync", "ip": "iproute2", "nsenter": "util-linux", "unshare": "util-linux",
             "flock": "util-linux", "sqlite3": "sqlite3", "fusermount3": "fuse3"}
@@ -108,6 +111,17 @@ def run_on_three(names: list[str], lockfs: str, begun: Iterator[int]) -> list[bo
     return results
 
 
+def nothing_left() -> str:
+    """Whether the nodes' files in memory, namespaces and mounts are gone."""
+    files = [str(path) for process in Nodes.ended for pattern in (f"qb-{process}-*", f"qb-corosync-{process}-*") for path in MEMORY.glob(pattern)]
+    folders = [str(work) for work in Nodes.works if work.exists()]
+    mounts = [line.split()[4] for line in Path("/proc/self/mountinfo").read_text().splitlines()]
+    namespaces = subprocess.run(["ip", "netns", "list"], capture_output=True, text=True, check=True).stdout.splitlines()
+    own = [name for name in mounts + namespaces if Nodes.prefix in name or any(name.startswith(str(work)) for work in Nodes.works)]
+    require(not files + folders + own, f"left behind: {', '.join(files + folders + own)}")
+    return ""
+
+
 def end(number: int, _: object) -> None:
     """Ends at a signal, and is ended by no second one before all is removed."""
     signal.signal(number, signal.SIG_IGN)
@@ -129,8 +143,9 @@ def main() -> int:
         return 0
     signal.signal(signal.SIGTERM, end)
     names = options.only or [*ALONE, *STEPS]
-    print(f"1..{len(names)}\n# grace {GRACE_MS} ms", flush=True)
-    numbers = iter(range(1, len(names) + 1))
+    print(f"1..{len(names) + 1}\n# grace {GRACE_MS} ms", flush=True)
+    numbers = iter(range(1, len(names) + 2))
     results = [run_step(next(numbers), name, lambda: ALONE[name](lockfs)) for name in names if name in ALONE]
     results += run_on_three([name for name in names if name in STEPS], lockfs, numbers)
+    results.append(run_step(next(numbers), "nothing-left", nothing_left))
     return 0 if all(results) else 1

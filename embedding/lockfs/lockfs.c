@@ -867,7 +867,7 @@ static bool prepare_cluster(const struct command *command, char **words) {
     while (size > 0 && path[size - 1] != '/') size--;
     strcpy(path + (size < 0 ? 0 : size), CLUSTER_PROGRAM);
     execv(path, words);
-    fprintf(stderr, "lockfs: --cluster: %s: %s (it is built where corosync's libraries are)\n", path, strerror(errno));
+    fprintf(stderr, "lockfs: --cluster: %s: %s (package dehokuna-cluster; it is built where corosync's libraries are)\n", path, strerror(errno));
     return false;
 }
 #endif

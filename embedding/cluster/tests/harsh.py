@@ -2,13 +2,16 @@
 """model.py made crueller: messages are queued over a change of ring, and the group changes within one ring; members see a ring at different moments;
 handing the state over takes up to 400 ms; each member has a timer of its own for purges; a node needs 1,000 ms to see that it is cut off, and the
 grace is 1,100; votes differ, and a member may be a witness. At every view it is checked, beside what model.py checks, that a lock that was told is
-in the log, or was purged since, or is lost as the view begins, or that the view waits for its node.
+in the log, or was purged since, or is lost as the view begins, or that the view waits for its node. Each run ends with a net that is whole and
+processes that all run: then all members have one view and one table, and each gets the lock in turn.
 
     harsh.py [--nodes N] [--votes] [--witness] [--runs A..B] [--events N] [--without acks,drop,wait,none,dedup,viewmark,atonce] [--trace]
-    harsh.py --schedules     three schedules that chance doesn't find
+    harsh.py --schedules [NAME]     schedules that chance doesn't find, or seldom
 
 Rules beside those of model.py: none: who waits for purges tells no state, so a change of members begins the wait anew; atonce: locks are lost when
-a view is decided, not when the state has come; viewmark: a message of another view is passed over; dedup is model.py's numbers.
+a view is decided, not when the state has come; viewmark: a message of another view is passed over; dedup is model.py's numbers. Of each rule it is
+shown what goes wrong without it (try-rules), but of viewmark: in this net what is queued over a change of ring comes before the HELLOs, and what
+is delivered over a change of the group alone is told by its number.
 """
 import argparse
 import collections
@@ -16,6 +19,8 @@ import heapq
 import random
 
 RULES = frozenset(['acks', 'drop', 'wait', 'none', 'dedup', 'viewmark', 'atonce'])
+# How long it takes at most, where all is whole, that a lock is let go and the next one has it.
+TURN_MS = 400
 
 class Wrong(Exception):
     pass
@@ -571,6 +576,62 @@ class World:
             self.run_until(self.now + self.r.choice(self.steps))
             self.event()
             self.check()
+        self.end_well()
+
+    # -- the end
+
+    def table_of(self, n):
+        """The member's table, as a value that is the same where tables are."""
+        return n.log.at(n.applied).digest if n.log else 0
+
+    def locks_of(self, n):
+        """How many locks and waits the member's table has."""
+        table = n.log.at(n.applied).table if n.log else EMPTY.table
+        return (table.holder is not None) + len(table.queue) + len(table.kept)
+
+    def end_well(self):
+        """All is whole, and all processes run: each gets the lock in turn, and all have one table."""
+        for n in self.nodes:
+            if not n.up:
+                self.node_starts(n)
+            elif not n.alive:
+                self.process_starts(n)
+        self.heal()
+        self.run_until(self.now + 5000)
+        self.form(0)
+        self.run_until(self.now + 5000)
+        self.let_all_go()
+        self.let_all_have_it()
+        self.run_until(self.now + TURN_MS)
+        tables = {self.table_of(n) for n in self.nodes}
+        if len(tables) > 1 or not all(self.is_in_view(n) for n in self.nodes):
+            raise Wrong('all is whole, and tables differ: %s, %s' % (tables, [self.is_in_view(n) for n in self.nodes]))
+
+    def let_all_go(self):
+        """Those who have the lock, or asked for it, have it and let it go; then nobody has it, nor waits."""
+        for _ in range(2 * self.count):
+            for n in self.nodes:
+                if n.client == 'told':
+                    n.client = 'unlocks'
+                    self.ask(n, 'unlock')
+            self.run_until(self.now + TURN_MS)
+        locks = [self.locks_of(n) for n in self.nodes]
+        if any(locks) or any(n.client != 'idle' for n in self.nodes):
+            raise Wrong('all have let go, and there are %s locks: %s' % (locks, [n.client for n in self.nodes]))
+
+    def let_all_have_it(self):
+        """Those who asked before are granted in turn, and whoever didn't asks."""
+        for n in self.nodes:
+            if n.client == 'idle':
+                n.client = 'asked'
+                self.ask(n, 'lock')
+        for _ in self.nodes:
+            self.run_until(self.now + TURN_MS)
+            holders = [n for n in self.nodes if n.client == 'told']
+            if len(holders) != 1:
+                raise Wrong('all is whole, and the lock has %d holders: %s' % (len(holders), [n.client for n in self.nodes]))
+            holders[0].client = 'unlocks'
+            self.ask(holders[0], 'unlock')
 
 
 def was_purged_since(log, name, view):
@@ -678,12 +739,54 @@ def purged_and_back(world):
     return 'as it should be'
 
 
-SCHEDULES = {state_of_a_broken_ring: 5, majority_of_one_that_knows: 3, purged_and_back: 5}
+def log_with_a_hole(world):
+    """Nodes 0 and 4 miss a lock of node 3, and then send alone: as their ring breaks they are delivered what they sent, without what was before."""
+    nodes = world.nodes
+    world.run_until(5000)
+    ask_if_idle(world, 3)
+    cut(world, [1, 0, 0, 0, 1], 0, [])
+    world.run_until(5200)
+    if nodes[3].client != 'told':
+        return 'not told'
+    cut(world, [1, 0, 0, 0, 1], 1, [(10, 1)])
+    ask_if_idle(world, 0)
+    ask_if_idle(world, 4)
+    world.run_until(5300)
+    cut(world, [1, 1, 0, 0, 1], 1, [(10, 1)])
+    world.run_until(5800)
+    return 'as it should be'
+
+
+def unlock_that_is_sent_again(world):
+    """Node 0, cut off with the token, lets its lock go and asks for it again; joined, it knows of neither that all have it already."""
+    n = world.nodes[0]
+    world.run_until(5000)
+    ask_if_idle(world, 0)
+    world.run_until(5200)
+    if n.client != 'told':
+        return 'not told'
+    cut(world, [1, 0, 0], 1, [])
+    n.client = 'unlocks'
+    world.ask(n, 'unlock')
+    world.run_until(5210)
+    ask_if_idle(world, 0)
+    world.run_until(5220)
+    cut(world, [0, 0, 0], 0, [(10, 0)])
+    for time in range(5230, 5400):
+        world.run_until(time)
+        ask_if_idle(world, 1)
+    world.run_until(6000)
+    return 'as it should be'
+
+
+SCHEDULES = {state_of_a_broken_ring: 5, majority_of_one_that_knows: 3, purged_and_back: 5, log_with_a_hole: 5, unlock_that_is_sent_again: 3}
 
 
 def run_schedules(world_class, options):
     wrong = 0
     for schedule, count in SCHEDULES.items():
+        if options.schedules not in ('all', schedule.__name__):
+            continue
         seen = collections.Counter()
         options.nodes, options.events, options.votes, options.witness, options.grace = count, 0, False, False, 3000
         for seed in range(300):
@@ -722,8 +825,9 @@ def main(world_class=World, description=__doc__):
     parser.add_argument('--grace', type=int, default=1100)
     parser.add_argument('--lag', type=int, default=1000)
     parser.add_argument('--without', default='')
-    for name in ('votes', 'witness', 'trace', 'schedules'):
+    for name in ('votes', 'witness', 'trace'):
         parser.add_argument('--' + name, action='store_true')
+    parser.add_argument('--schedules', nargs='?', const='all', choices=['all', *(schedule.__name__ for schedule in SCHEDULES)])
     parser.add_argument('--library', help='of replicas.py')
     options = parser.parse_args()
     options.rules = RULES - set(options.without.split(','))

@@ -2,9 +2,6 @@
 """harsh.py's net and schedules, with replicas of lockfs' own C as members: each is a copy of a shared object (sim_group.c, `make cluster-model`).
 
     replicas.py --library FILE [as harsh.py, but for --without]
-
-Beside what harsh.py checks of who may write, each run ends with a net that is whole and processes that all run: then all members have one view and
-one table, and each gets the lock in turn.
 """
 import atexit
 import ctypes
@@ -22,7 +19,6 @@ BYTES = ctypes.POINTER(ctypes.c_uint8)
 IN_VIEW, WITHDRAWN = 2, 3
 ERRORS = {5: 'EIO', 4: 'EINTR'}
 WAIT = 3    # enum op
-TURN_MS = 400
 PT_LOAD, PT_GNU_RELRO, PF_W, PAGE = 1, 0x6474e552, 2, 4096
 
 
@@ -211,54 +207,11 @@ class Replicas(World):
 
     # -- the end
 
-    def run(self):
-        super().run()
-        if self.options.events:
-            self.end_well()
+    def table_of(self, n):
+        return n.call.sim_table()
 
-    def end_well(self):
-        """All is whole, and all processes run: each gets the lock in turn, and all have one table."""
-        for n in self.nodes:
-            if not n.up:
-                self.node_starts(n)
-            elif not n.alive:
-                self.process_starts(n)
-        self.heal()
-        self.run_until(self.now + 5000)
-        self.form(0)
-        self.run_until(self.now + 5000)
-        self.let_all_go()
-        self.let_all_have_it()
-        self.run_until(self.now + TURN_MS)
-        tables = {n.call.sim_table() for n in self.nodes}
-        if len(tables) > 1 or not all(self.is_in_view(n) for n in self.nodes):
-            raise Wrong('all is whole, and tables differ: %s, %s' % (tables, [n.standing for n in self.nodes]))
-
-    def let_all_go(self):
-        """Those who have the lock, or asked for it, have it and let it go; then nobody has it, nor waits."""
-        for _ in range(2 * self.count):
-            for n in self.nodes:
-                if n.client == 'told':
-                    n.client = 'unlocks'
-                    self.ask(n, 'unlock')
-            self.run_until(self.now + TURN_MS)
-        locks = [n.call.sim_locks() for n in self.nodes]
-        if any(locks) or any(n.client != 'idle' for n in self.nodes):
-            raise Wrong('all have let go, and there are %s locks: %s' % (locks, [n.client for n in self.nodes]))
-
-    def let_all_have_it(self):
-        """Those who asked before are granted in turn, and whoever didn't asks."""
-        for n in self.nodes:
-            if n.client == 'idle':
-                n.client = 'asked'
-                self.ask(n, 'lock')
-        for _ in self.nodes:
-            self.run_until(self.now + TURN_MS)
-            holders = [n for n in self.nodes if n.client == 'told']
-            if len(holders) != 1:
-                raise Wrong('all is whole, and the lock has %d holders: %s' % (len(holders), [n.client for n in self.nodes]))
-            holders[0].client = 'unlocks'
-            self.ask(holders[0], 'unlock')
+    def locks_of(self, n):
+        return n.call.sim_locks()
 
 
 for name in ('told_ring', 'ring_of_process'):

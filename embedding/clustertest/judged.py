@@ -1,0 +1,199 @@
+"""Processes race for locks on all mounts, by conformance/locktorture, and lockreplay finds a legal order of what they were told; also while nodes die."""
+
+from __future__ import annotations
+
+import contextlib
+import errno
+import os
+import random
+import signal
+import subprocess
+import sys
+import threading
+import time
+from collections import Counter
+from concurrent.futures import ThreadPoolExecutor
+from pathlib import Path
+from typing import Iterator, Optional
+
+from clustertest.faults import comes_back
+from clustertest.nodes import GRACE_MS, Nodes, require, wait_until
+from torture.history import Manner, Writer
+from torture.judging import ILLEGAL, OVER_LIMIT, HistoryJudge, shorten
+from torture.log import Call, Log, Process, read_log
+from torture.outages import Outage
+from torture.rounds import Keeper, Plan
+
+CLIENTS = 9
+# Where nodes die. As locktorture has them on FUSE; but nobody moves while a node is away, so the patience is longer, and what a node leaves is open for
+# long, so rounds are shorter.
+FEWER_CLIENTS, REQUESTS, TIDY, PATIENCE_S = 6, 60, 90, 20.0
+# Beside rounds in which a node died this many others are judged.
+OTHERS = 50
+MILLISECOND = 1_000_000
+# How long before a death a release may have been answered that nobody else was told of.
+UNTOLD = 200 * MILLISECOND
+VIEW_OF_TWO = "of 2 members: goes on"
+# What a node says that loses its locks.
+LOST = ("loses its locks", "begins with no locks", "gives EIO")
+NO_MOUNT = (errno.ENOENT, errno.ENOTCONN, errno.ECONNABORTED, errno.EIO, errno.ENODEV)
+
+
+def race(nodes: Nodes, seconds: int = 20) -> str:
+    """All nodes live."""
+    if "LOCKREPLAY" not in os.environ:
+        return "# skip no LOCKREPLAY"
+    program = Path(__file__).resolve().parent.parent.parent / "conformance" / "locktorture"
+    places = [nodes.mount(node) / "torture" for node in nodes.all()]
+    places[0].mkdir()
+    words = [sys.executable, program, "--seconds", seconds, "--clients", CLIENTS, *places]
+    ran = subprocess.run([str(word) for word in words], capture_output=True, text=True, check=False, timeout=300)
+    require(ran.returncode == 0, f"status {ran.returncode}: {ran.stdout[-1500:]}{ran.stderr[-500:]}")
+    return f"{ran.stdout.count('ok ')} rounds"
+
+
+class Rounds(Keeper):
+    """Rounds on the nodes' mounts, which may be away; files are made in the folder below."""
+
+    def __init__(self, nodes: Nodes) -> None:
+        plan = Plan(FEWER_CLIENTS, REQUESTS, "both", PATIENCE_S, TIDY)
+        super().__init__([nodes.mount(node) for node in nodes.all()], plan, nodes.folder)
+
+    def may_end_so(self, process: Process) -> bool:
+        """Also a client that can open nothing, since its mount is away, ends."""
+        last = process.records[-1] if process.records else None
+        return super().may_end_so(process) or (last is not None and last.call == Call.OPEN and -last.result in NO_MOUNT)
+
+    def kill_on(self, mount: int) -> None:
+        """Kills the clients that run on a mount."""
+        assert self.memory
+        with memoryview(self.memory) as noted:
+            log = read_log(noted, time.monotonic_ns())
+        for slot, process in enumerate(log.processes):
+            if process.pid and process.waited_at is None and log.mount_of(slot, len(self.directories)) == mount:
+                with contextlib.suppress(ProcessLookupError):
+                    os.kill(process.pid, signal.SIGKILL)
+
+
+class Deaths(threading.Thread):
+    """Nodes die, one at a time, each with its processes, and come back, until `is_over` is set."""
+
+    def __init__(self, nodes: Nodes, rounds: Rounds, seed: int) -> None:
+        super().__init__(daemon=True)
+        self.nodes, self.rounds, self.random = nodes, rounds, random.Random(seed)
+        self.outages: list[Outage] = []
+        self.is_over = threading.Event()
+        self.failure: Optional[Exception] = None
+
+    def run(self) -> None:
+        """Deaths, until they are over or one shows a failure."""
+        try:
+            while not self.is_over.wait(0.5 + self.random.random()):
+                self.outages.append(self.outage(self.random.choice(list(self.nodes.all())), self.random.random() < 0.5))
+        except Exception as failure:  # pylint: disable=broad-except
+            self.failure = failure
+
+    def outage(self, node: int, with_corosync: bool) -> Outage:
+        """A node's lockfs dies, or lockfs and corosync at once, and comes back once the others have purged its locks."""
+        others = [other for other in self.nodes.all() if other != node]
+        before = {other: len(self.nodes.told(other)) for other in others}
+        began = time.monotonic_ns()
+        if with_corosync:
+            self.nodes.kill_corosync(node)
+            died = time.monotonic_ns()
+        self.nodes.kill(node)
+        if not with_corosync:
+            died = time.monotonic_ns()
+        with self.killing(node):
+            # (a node that is dead while its corosync lives is purged as the view begins)
+            words = f"node {node} is purged" if with_corosync else VIEW_OF_TWO
+            for other in others:
+                wait_until(lambda: words in self.nodes.told(other)[before[other]:], 30, f"node {other} doesn't purge {node}")
+            purges = [self.time_of(words, self.nodes.told(other)[before[other]:]) for other in others]
+            require(not with_corosync or min(purges) - began > GRACE_MS * MILLISECOND, f"node {node} is purged within the grace")
+            views = [self.time_of(VIEW_OF_TWO, self.nodes.told(other)[before[other]:]) for other in others]
+            self.wait_for_all(others)
+        back = time.monotonic_ns()
+        comes_back(self.nodes, node)
+        self.wait_for_all(list(self.nodes.all()))
+        for other in others:
+            told = self.nodes.told(other)[before[other]:]
+            require(not any(lost in told for lost in LOST), f"node {other} lost its locks, which lives: {told}")
+        # (where the ring changes, what was told last is told anew)
+        unrest = ((began - UNTOLD, max(views) + MILLISECOND), (back, time.monotonic_ns())) if with_corosync else ()
+        return Outage(node - 1, began, min(died, *purges), min(purges), max(purges) + MILLISECOND, back, unrest)
+
+    @staticmethod
+    def time_of(words: str, told: str) -> int:
+        """When a log said this first, as the clients' clock has it; a log's times have whole milliseconds."""
+        line = next(line for line in told.splitlines() if words in line)
+        since = time.time_ns() - MILLISECOND * round(1000 * float(line.split()[0]))
+        return time.monotonic_ns() - since
+
+    def wait_for_all(self, nodes: list[int]) -> None:
+        """Each node has what was asked for before, since it grants what is asked for now."""
+        for node in nodes:
+            self.nodes.wait_for_grants(node)
+
+    @contextlib.contextmanager
+    def killing(self, node: int) -> Iterator[None]:
+        """Meanwhile no process that was on the node, or was forked by one, lives on."""
+        is_over = threading.Event()
+
+        def kill() -> None:
+            while not is_over.wait(0.005):
+                self.rounds.kill_on(node - 1)
+
+        killer = threading.Thread(target=kill, daemon=True)
+        killer.start()
+        try:
+            yield
+        finally:
+            is_over.set()
+            killer.join()
+
+
+def is_touched(log: Log, outage: Outage) -> bool:
+    """Whether the node died in the round."""
+    return any(process.records and process.records[0].start < outage.began < log.ended_at for process in log.processes)
+
+
+def run_rounds(nodes: Nodes, seconds: float, seed: int) -> tuple[list[Log], list[Outage]]:
+    """The rounds of a time in which nodes die, and the deaths."""
+    logs: list[Log] = []
+    with Rounds(nodes) as rounds:
+        deaths = Deaths(nodes, rounds, seed)
+        deaths.start()
+        try:
+            until = time.monotonic() + seconds
+            while time.monotonic() < until and deaths.is_alive():
+                logs.append(rounds.run(1_000_000 * seed + len(logs)))
+        finally:
+            deaths.is_over.set()
+            deaths.join(120)
+    if deaths.failure:
+        raise deaths.failure
+    return logs, deaths.outages
+
+
+def race_while_nodes_die(nodes: Nodes, seconds: float = 60) -> str:
+    """Nodes die in the middle of rounds: their processes' locks stand until the others are told to purge them, and then go."""
+    if "LOCKREPLAY" not in os.environ:
+        return "# skip no LOCKREPLAY"
+    seed = int(os.environ.get("SEED", "1"))
+    logs, outages = run_rounds(nodes, seconds, seed)
+    touched, others = [], []
+    for log in logs:
+        (touched if any(is_touched(log, outage) for outage in outages) else others).append(log)
+    chosen = touched + others[:: max(1, len(others) // OTHERS)]
+    judge = HistoryJudge(Path(os.environ["LOCKREPLAY"]))
+    manner = Manner(releases_late=True, tells_owners=False)
+    texts = [Writer(log, manner, nodes.count, outages).write() for log in chosen]
+    with ThreadPoolExecutor(2) as pool:
+        verdicts = list(pool.map(judge.judge, texts))
+    for text, verdict in zip(texts, verdicts):
+        require(verdict.status != ILLEGAL, f"{verdict.says}: {shorten(judge, text, verdict) if verdict.status == ILLEGAL else ''}")
+    kinds = Counter(verdict.status for verdict in verdicts)
+    require(2 * kinds[OVER_LIMIT] < len(touched), f"{len(touched)} rounds with a death, {kinds[OVER_LIMIT]} are not judged")
+    nodes.wait_for_agreement(list(nodes.all()))
+    return f"{len(outages)} deaths, {len(touched)} rounds with one, {len(chosen)} of {len(logs)} judged, {kinds[OVER_LIMIT]} over the limit"
