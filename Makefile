@@ -47,6 +47,8 @@ test:
 	sh tests/large-scripts.sh $(PROGRAM).by-rattle
 	sh tests/samples.sh $(PROGRAM)
 	sh tests/samples.sh $(PROGRAM).by-rattle
+	tests/json-lines $(PROGRAM)
+	tests/json-lines $(PROGRAM).by-rattle
 	tests/explored $(PROGRAM)
 	tests/explored $(PROGRAM).by-rattle --scripts 50
 	$(MAKE) --no-print-directory calls

@@ -19,16 +19,6 @@ flag_rule name = record (new_rule name) { long = Some name; action = Some SetTru
 abbrev pub option_rule : Text → Rule
 option_rule name = record (new_rule name) { long = Some name; value_names = 1 }
 
--- whether one of the words before the first `--` is this flag
-abbrev pub has_word : Text → List Text → Bool
-has_word flag [] = false
-has_word flag (word ∷ words) = if bytes_eq word (codes "--") then false else bytes_eq word flag || has_word flag words
-
--- whether the words, the first of which is the program's name, ask for this flag
-abbrev pub asks_for : Text → List Text → Bool
-asks_for flag [] = false
-asks_for flag (name ∷ words) = has_word flag words
-
 -- the flags of the program
 pub data Flag : Type 0 where
   Threads : Flag

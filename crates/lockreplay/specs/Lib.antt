@@ -1,4 +1,5 @@
 pub mod CommandLine
+pub mod GivenWords
 pub mod ExploreLine
 pub mod Explorings
 pub mod Faults

@@ -6,31 +6,37 @@ ghost use Rattle.std.specs.Prelude.{◌≤◌};
 ghost use Rattle.lockreplay.specs.Faults.{StatusTells};
 
 mod command_line;
+mod devices;
 mod explore_line;
 mod faults;
+mod given_words;
 mod history_line;
 mod options;
+mod progress;
 
-use command_line::asks_for;
+use devices::{fault_of, input, output};
 use explore_line::explore_options;
-use explore_run::{Exploring, explore_script};
+use explore_run::{Exploring, Watch, explore_script};
 use faults::Fault;
+use given_words::{asks_for, take_flag};
 use history_check::{HistoryOutcome, Judging};
 use history_run::judge_history;
 use options::path_of;
+use progress::Progress;
 use range_core::Memory;
-use replay_core::{FromReader, Job, RunFault, ToWriter, perform};
+use replay_core::{Job, RunFault, perform};
+use std::env;
 use std::env::Env;
 use std::fs::Files;
+use std::io::Stderr;
 use std::process::ExitCode;
 use std::sync::Wait;
 use std::thread::Threads;
 use std::time::Clock;
-use std::{env, fs, io};
 
 /// A fault is told on standard error, and its status is the program's.
 fn main(rt: HostRuntime) -> ExitCode {
-    match run(&rt) {
+    match run(&rt, rt.stderr()) {
         Ok(status) => ExitCode::from(status),
         Err(fault) => {
             let _ = eprint!(rt; "{fault}");
@@ -42,26 +48,34 @@ fn main(rt: HostRuntime) -> ExitCode {
 /// Judges the command line, and then does what it asks for; says the exit status.
 fn run(
     rt: &(impl AllocGlobal + Clock + Env + Files + Input + Print + Sync + Threads + Wait),
+    stderr: Stderr,
 ) -> Result<u8, Fault> {
-    let words: Vec<String> = env::args(rt)
+    let mut words: Vec<String> = env::args(rt)
         .map_err(Fault::of_input)?
         .collect(rt.alloc())
         .map_err(Memory::from)
         .map_err(RunFault::Memory)?;
+    let json = take_flag(&mut words, "--json");
     if asks_for(&words, "--explore") {
         let options = explore_options(rt.alloc(), &words).map_err(Fault::of_command_line)?;
         let exploring = options.exploring(rt.alloc())?;
-        explore(rt, &exploring, path_of(options.file))
+        explore(
+            rt,
+            &Progress::new(rt, stderr),
+            &exploring,
+            path_of(options.file),
+            json,
+        )
     } else if asks_for(&words, "--history") {
         let options = history_line::history_options(rt.alloc(), &words).map_err(
             Fault::of_command_line,
         )?;
         let judging = options.judging().map_err(Fault::Misuse)?;
-        judge(rt, judging, path_of(options.file))
+        judge(rt, judging, path_of(options.file), json)
     } else {
         let options = command_line::options(rt.alloc(), &words).map_err(Fault::of_command_line)?;
         let job = options.job().map_err(Fault::Misuse)?;
-        replay(rt, job, path_of(options.file))
+        replay(rt, job, path_of(options.file), json)
     }
 }
 
@@ -70,41 +84,32 @@ fn replay(
     rt: &(impl AllocGlobal + Clock + Files + Input + Print + Sync + Threads + Wait),
     job: Job,
     path: Option<&str>,
+    json: bool,
 ) -> Result<u8, Fault> {
-    let mut sink = ToWriter::new(io::writer(rt));
-    let outcome = match path {
-        Some(path) => {
-            let mut source = FromReader::new(fs::open(rt, path).map_err(Fault::of_input)?);
-            perform(rt, job, &mut source, &mut sink)?
-        }
-        None => {
-            let mut source = FromReader::new(rt.reader());
-            perform(rt, job, &mut source, &mut sink)?
-        }
-    };
-    Ok(outcome.status())
+    let mut source = input(rt, path)?;
+    let mut sink = output(rt, json);
+    match perform(rt, job, &mut source, &mut sink) {
+        Ok(outcome) => Ok(outcome.status()),
+        Err(fault) => Err(fault_of(sink, fault)),
+    }
 }
 
 /// Searches every order of the script in the file, or on standard input where there is none, and writes to standard output.
 fn explore(
     rt: &(impl AllocGlobal + Files + Input + Print),
+    progress: &impl Watch,
     exploring: &Exploring,
     path: Option<&str>,
+    json: bool,
 ) -> Result<u8, Fault>
     requires { 1 ≤ exploring.now.limit }
 {
-    let mut sink = ToWriter::new(io::writer(rt));
-    let outcome = match path {
-        Some(path) => {
-            let mut source = FromReader::new(fs::open(rt, path).map_err(Fault::of_input)?);
-            explore_script(rt.alloc(), exploring, &mut source, &mut sink)?
-        }
-        None => {
-            let mut source = FromReader::new(rt.reader());
-            explore_script(rt.alloc(), exploring, &mut source, &mut sink)?
-        }
-    };
-    Ok(outcome.status())
+    let mut source = input(rt, path)?;
+    let mut sink = output(rt, json);
+    match explore_script(rt.alloc(), exploring, &mut source, &mut sink, progress) {
+        Ok(outcome) => Ok(outcome.status()),
+        Err(fault) => Err(fault_of(sink, fault)),
+    }
 }
 
 /// Judges the history in the file, or on standard input where there is none, and writes to standard output.
@@ -112,19 +117,14 @@ fn judge(
     rt: &(impl AllocGlobal + Files + Input + Print),
     judging: Judging,
     path: Option<&str>,
+    json: bool,
 ) -> Result<u8, Fault> {
-    let mut sink = ToWriter::new(io::writer(rt));
-    let outcome = match path {
-        Some(path) => {
-            let mut source = FromReader::new(fs::open(rt, path).map_err(Fault::of_input)?);
-            judge_history(rt.alloc(), judging, &mut source, &mut sink)?
-        }
-        None => {
-            let mut source = FromReader::new(rt.reader());
-            judge_history(rt.alloc(), judging, &mut source, &mut sink)?
-        }
-    };
-    status_of(outcome)
+    let mut source = input(rt, path)?;
+    let mut sink = output(rt, json);
+    match judge_history(rt.alloc(), judging, &mut source, &mut sink) {
+        Ok(outcome) => status_of(outcome),
+        Err(fault) => Err(fault_of(sink, fault)),
+    }
 }
 
 /// The exit status of a history that was judged, or the fault of one that is none.
