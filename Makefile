@@ -53,12 +53,12 @@ test:
 	tests/explored $(PROGRAM).by-rattle --scripts 50
 	$(MAKE) --no-print-directory calls
 	sh tests/readme.sh $(PROGRAM)
-	sh tests/signposts.sh
-	sh tests/versions.sh
+	sh tools/signposts.sh
+	sh tools/versions.sh
 	sh tests/worked-rows.sh | cmp - crates/script_core_tests/src/tests/worked.rt
-	tests/memory-is-passed-on
-	sh tests/bad-edits.sh
-	tests/edit-reasons --compile
+	tools/memory-is-passed-on
+	sh tools/bad-edits.sh
+	tools/edit-reasons --compile
 	cd conformance && LOCKREPLAY=$(abspath $(PROGRAM)) python3 -m unittest tests.test_corpus tests.test_judging tests.test_lies tests.test_torture \
 	    tests.test_traces
 	tools/gate-line --passed
@@ -71,7 +71,7 @@ format:
 # `make edits EDITS='CRATE EDIT'` tries some.
 edits:
 	rt all check
-	tests/edit-reasons $(EDITS)
+	tools/edit-reasons $(EDITS)
 
 # Refuses each growth of runs on the sample and on each worked script in turn, and of the tests that look what a refusal leaves, on what
 # was built.

@@ -8,7 +8,7 @@ use thiserror::Error;
 /// it had not been made, where its documentation doesn't say otherwise).
 ///
 /// It is made here alone, of the error of a refused growth or of a count that no block has places for, and passed on
-/// everywhere else. The private field doesn't carry that, since anyone can make an `AllocError`: `tests/memory-is-passed-on`
+/// everywhere else. The private field doesn't carry that, since anyone can make an `AllocError`: `tools/memory-is-passed-on`
 /// looks at each place of the sources that names one.
 #[derive(Clone, Copy, Debug, PartialEq, Eq, Error)]
 #[error("no memory")]

@@ -5,8 +5,8 @@
 set -eu
 work=$(mktemp -d)
 trap 'rm -rf "$work"' EXIT
-mkdir "$work/tests"
-cp "$(dirname "$0")/edit-reasons" "$work/tests"
+mkdir "$work/tools"
+cp "$(dirname "$0")/edit-reasons" "$work/tools"
 printf 'low:\nhigh: low\n' > "$work/crates.txt"
 for crate in low high; do mkdir -p "$work/crates/$crate/src" "$work/crates/$crate/must-fail" "$work/crates/$crate/further-edits"; done
 cat > "$work/crates/low/src/lib.rt" <<'END'
@@ -83,7 +83,7 @@ low/a_moved_value
 low/a_right_body_of_another_type, its right body
 low/what_stands_twice'
 ended=0
-"$work/tests/edit-reasons" --compile > "$work/told" || ended=$?
+"$work/tools/edit-reasons" --compile > "$work/told" || ended=$?
 found=$(sed -n 's/^\([a-z]*\/[^:]*\): .*/\1/p' "$work/told" | sort)
 last=$(tail -n 1 "$work/told")
 if [ "$ended" -ne 1 ] || [ "$found" != "$due" ] || [ "$last" != "edit-reasons: 4 edits compile, 6 don't" ]; then
