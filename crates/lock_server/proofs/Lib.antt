@@ -29,6 +29,9 @@ pub mod BlockerLemmas
 pub mod ReachedLemmas
 pub mod FollowLemmas
 pub mod LookedLemmas
+pub mod ExtentLemmas
+pub mod FreedLemmas
+pub mod KnownLemmas
 pub mod ReadyLemmas
 pub mod HavingLemmas
 pub mod ForgetLemmas

@@ -37,6 +37,7 @@ pub mod Queueing
 pub mod Agreement
 pub mod Exports
 pub mod Adding
+pub mod Freed
 pub mod Reached
 pub mod Restoring
 pub mod Searching

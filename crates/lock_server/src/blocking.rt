@@ -42,7 +42,7 @@ impl Pending {
 }
 
 /// Whether two ranges have a byte in common; whole files always meet.
-fn meet(family: Family, one: Span, other: Span) -> bool
+pub(crate) fn meet(family: Family, one: Span, other: Span) -> bool
     ensures { IsTrue result ↔ Meet family one other }
 {
     match family {

@@ -12,6 +12,7 @@ mod clients;
 mod counting;
 mod export;
 mod flocks;
+mod freeing;
 mod granting;
 pub(crate) mod having;
 mod holding;

@@ -6,6 +6,7 @@ mod blocking;
 mod closing;
 mod converting;
 mod file;
+mod freed;
 mod holdings;
 mod import;
 mod laws;

@@ -95,9 +95,10 @@ impl LockServer {
         if self.is_held_back(file, owner, span, mode) {
             return Ok(Answer::Blocked);
         }
+        let freed = self.table.freed_by_set(file, owner, span, mode);
         self.holdings
             .set(&mut self.table, &self.openings, file, owner, span, mode)?;
-        self.table.settle(file);
+        self.table.settle_among(file, freed);
         self.table.sweep(file);
         self.holdings.tidy(&self.table, &self.openings, owner, file);
         Ok(Answer::Done)
@@ -131,6 +132,7 @@ impl LockServer {
         }
         let wanted = byte_request(ticket, owner, span, mode, detect);
         if !self.table.blocks(file, &wanted) {
+            let freed = self.table.freed_by_set(file, owner, span, Some(mode));
             self.holdings.set(
                 &mut self.table,
                 &self.openings,
@@ -139,7 +141,7 @@ impl LockServer {
                 span,
                 Some(mode),
             )?;
-            self.table.settle(file);
+            self.table.settle_among(file, freed);
             return Ok(WaitAnswer::Done);
         }
         if self.closes_cycle(file, &wanted)? {
@@ -159,10 +161,12 @@ impl LockServer {
         ensures openings { SameOpenings (through_of self.old) (through_of self.new) }
     {
         match self.table.cancel(ticket) {
-            Some((file, owner)) => {
-                self.table.settle(file);
+            Some((file, wait)) => {
+                let freed = self.table.freed_by_leaving(&wait);
+                self.table.settle_among(file, freed);
                 self.table.sweep(file);
-                self.holdings.tidy(&self.table, &self.openings, owner, file);
+                self.holdings
+                    .tidy(&self.table, &self.openings, wait.owner, file);
                 true
             }
             None => false,
@@ -196,8 +200,9 @@ impl LockServer {
         ensures rules { rules_of self.new ≡ rules_of self.old }
         ensures openings { SeesOn (through_of self.old) (through_of self.new) file owner None }
     {
+        let freed = self.table.freed_by_release(file, owner);
         self.table.release(file, owner);
-        self.table.settle(file);
+        self.table.settle_among(file, freed);
         self.table.sweep(file);
         self.openings.forget(file, owner);
         self.holdings.tidy(&self.table, &self.openings, owner, file);
@@ -272,8 +277,9 @@ impl LockServer {
         ensures rules { rules_of self.new ≡ rules_of self.old }
         ensures openings { SameOpenings (through_of self.old) (through_of self.new) }
     {
+        let freed = self.table.freed_by_flock_release(file, owner);
         self.table.release_flock(file, owner);
-        self.table.settle(file);
+        self.table.settle_among(file, freed);
         self.table.sweep(file);
         self.holdings.tidy(&self.table, &self.openings, owner, file);
     }

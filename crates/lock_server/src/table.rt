@@ -10,6 +10,7 @@ mod entries;
 mod export;
 mod flocks;
 mod following;
+mod freeing;
 mod holding;
 mod listing;
 mod looked_at;

@@ -6,6 +6,7 @@ ghost use Rattle.lock_server.specs.Adding.{LeavesBlocked, OnlyAdds};
 ghost use Rattle.lock_server.specs.FileView.{file_state};
 
 use super::LockFile;
+use crate::freed::Known;
 use crate::{Family, Mode, Pending, Policy, Span};
 use lock_book::{Book, Owner};
 
@@ -14,8 +15,8 @@ use lock_book::{Book, Owner};
 pub struct Granted {
     /// As it waited.
     pub wait: Pending,
-    /// So many of those that wait still, the earliest, are blocked.
-    pub blocked: usize,
+    /// What is known of those that wait still.
+    pub known: Known,
 }
 
 #[tactic(auto, unfolding(crate::specs::FileView::file_state))]

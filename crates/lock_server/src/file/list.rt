@@ -3,12 +3,14 @@ ghost use Rattle.std.specs.Prelude.{◌≡◌, ◌≢◌, ◌==◌, ◌<◌, ◌
 ghost use Rattle.range_core.specs.Ranges.{IsByteRange};
 ghost use Rattle.lock_server.specs.Files.{GetsLock, Joins, Leaves, SameFile, SameLocks, FileState};
 ghost use Rattle.lock_server.specs.FileView.{file_state};
+ghost use Rattle.lock_server.specs.Freed.{AreBlockedBut, IsKnown};
 ghost use Rattle.lock_server.specs.Leaving.{is_leaving, is_staying};
 ghost use Rattle.lock_server.specs.Settling.{Grants, HasAlready, IsBlockedUnless, IsHeldBack, IsSettled, IsWaitBlocked, PendingsConflict};
 ghost use Rattle.lock_server.specs.Waiting.{AreBlockedTo, IsReadyAt, IsReserved, IsReservedIn, KeepsFlockRoom, LeavesAt};
 
 use super::LockFile;
 use super::granting::{Granted, set_in_room};
+use crate::freed::{Freed, Known};
 use crate::leaving::Leaving;
 use crate::{Family, Memory, Pending, Policy};
 use lock_book::Owner;
@@ -70,19 +72,33 @@ impl LockFile {
         wait.conflicts_with_any(earlier) && !self.has_already(wait)
     }
 
-    /// The place of the earliest wait that nothing blocks, where so many are known to be blocked, and `None` where each is (POSIX leaves
-    /// open which waiting process gets a lock first; the earliest is this project's choice).
-    pub fn next_ready(&self, policy: Policy, blocked: usize) -> Option<usize>
-        requires { AreBlockedTo policy (file_state self.now) blocked }
+    /// The place of the earliest wait that nothing blocks, where this is known of them, and `None` where each is blocked (POSIX leaves
+    /// open which waiting process gets a lock first; the earliest is this project's choice). Only waits that may have been freed are asked.
+    pub fn next_ready(&self, policy: Policy, known: Known) -> Option<usize>
+        requires { IsKnown policy (file_state self.now) known }
         ensures ready { IfSome result (IsReadyAt policy (file_state self.now)) }
         ensures settled { IfNone result (IsSettled policy (file_state self.now)) }
     {
-        for i in blocked..self.waits.len() {
-            if !self.is_blocked_at(policy, i) {
+        for i in known.blocked..self.waits.len() {
+            if !self.is_still_blocked(policy, known.freed, i) {
                 return Some(i);
             }
         }
         None
+    }
+
+    /// Whether the wait at this place is blocked, where each but these is.
+    fn is_still_blocked(&self, policy: Policy, freed: Freed, i: usize) -> bool
+        requires within { i < length (file_state self.now).waits }
+        requires but { AreBlockedBut policy (file_state self.now) freed }
+        ensures { (wait : Pending) → slice_get (file_state self.now).waits i ≡ Some wait
+            → IsTrue result ↔ IsWaitBlocked policy (file_state self.now) (take i (file_state self.now).waits) wait }
+    {
+        let wait = &self.waits[i];
+        if !freed.contains(wait) {
+            return true;
+        }
+        self.is_blocked_at(policy, i)
     }
 
     /// Whether the wait at this place is blocked.
@@ -120,20 +136,28 @@ impl LockFile {
         self.waits.push_reserved(wait);
     }
 
-    /// The wait at this place, which nothing blocks, leaves the list and gets its lock. It takes no memory (POSIX.1-2017 fcntl,
-    /// `F_SETLKW`; flock(2)).
-    pub fn grant(&mut self, policy: Policy, i: usize) -> Granted
+    /// The wait at this place, which nothing blocks, leaves the list and gets its lock, where only these may have been freed. It takes no
+    /// memory (POSIX.1-2017 fcntl, `F_SETLKW`; flock(2)).
+    pub fn grant(&mut self, policy: Policy, i: usize, freed: Freed) -> Granted
         requires { i < length (file_state self.old).waits }
         ensures is { slice_get (file_state self.old).waits i ≡ Some result.wait }
         ensures granted { IsReadyAt policy (file_state self.old) i → Grants policy (file_state self.old) result.wait (file_state self.new) }
-        ensures blocked { IsReadyAt policy (file_state self.old) i → AreBlockedTo policy (file_state self.new) result.blocked }
+        ensures blocked { IsReadyAt policy (file_state self.old) i → AreBlockedTo policy (file_state self.new) result.known.blocked }
+        ensures freed { IsReadyAt policy (file_state self.old) i → AreBlockedBut policy (file_state self.old) freed
+            → AreBlockedBut policy (file_state self.new) result.known.freed }
         ensures fewer { length (file_state self.new).waits + 1 ≡ length (file_state self.old).waits }
         ensures room { KeepsFlockRoom self.old self.new }
     {
         let blocked = if self.leaves_blocked(policy, i) { i } else { 0 };
         let wait = self.remove_at(i);
         self.give(&wait);
-        Granted { wait, blocked }
+        Granted {
+            wait,
+            known: Known {
+                blocked,
+                freed: freed.behind(&wait),
+            },
+        }
     }
 
     /// The wait, which left the list, gets its lock in the room that was held for it. It needs no memory.

@@ -7,6 +7,7 @@ ghost use Rattle.lock_server.specs.States.{IsTaken};
 ghost use Rattle.lock_server.specs.TableView.{AreSwept, KeepsEntries, KeepsOthers, table_state, table_policy};
 
 use super::Table;
+use crate::freed::Known;
 use crate::requests::{NO_TICKET, byte_request, flock_request};
 use crate::{FlockLock, Lock, Memory, Pending};
 
@@ -129,7 +130,7 @@ impl Table {
     {
         let mut above = None;
         while let Some(file) = self.next_file(above) {
-            if let Some(place) = self.next_ready(file, 0) {
+            if let Some(place) = self.next_ready(file, Known::nothing()) {
                 return Some((file, place));
             }
             above = Some(file);

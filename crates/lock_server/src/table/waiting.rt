@@ -1,7 +1,8 @@
 //! Requests that may wait, and those that wait no more.
-ghost use Rattle.std.specs.Prelude.{◌≡◌, ◌↔◌, Any, None, Some, IsTrue, IfSome, IfNone, OnErr, OnOk};
+ghost use Rattle.std.specs.Prelude.{◌≡◌, ◌↔◌, List, None, Some, IsTrue, IfSome, IfNone, OnErr, OnOk};
 ghost use Rattle.range_core.specs.Ranges.{IsByteRange};
 ghost use Rattle.lock_server.specs.Calls.{LeavesOn, Suspends};
+ghost use Rattle.lock_server.specs.Files.{Leaves};
 ghost use Rattle.lock_server.specs.TableRoom.{HasRoomFor};
 ghost use Rattle.lock_server.specs.Settling.{HasAlready, IsBlockedUnless, IsWaitBlocked};
 ghost use Rattle.lock_server.specs.States.{IsPending, IsTaken, SameState};
@@ -112,11 +113,12 @@ impl Table {
         self.tickets.forget(ticket);
     }
 
-    /// The wait with the ticket leaves its file, which is told with whose wait it was; `None` where there is none. No wait is granted.
-    /// It takes no memory (FUSE, interrupt).
-    pub fn cancel(&mut self, ticket: u64) -> Option<(u64, u64)>
+    /// The wait with the ticket leaves its file, which is told with the wait; `None` where there is none. No wait is granted. It takes no
+    /// memory (FUSE, interrupt).
+    pub fn cancel(&mut self, ticket: u64) -> Option<(u64, Pending)>
         ensures some { IfSome result (λ found. LeavesOn (table_state self.old) found.0 ticket (table_state self.new)) }
-        ensures owner { IfSome result (λ found. Any (λ wait. (wait.ticket ≡ ticket) × (wait.owner ≡ found.1)) ((table_state self.old).files found.0).waits) }
+        ensures wait { IfSome result (λ found. (found.1.ticket ≡ ticket) × (before : List Pending) × (after : List Pending)
+            × Leaves ((table_state self.old).files found.0) before found.1 after ((table_state self.new).files found.0)) }
         ensures none { IfNone result ((¬ IsPending (table_state self.old) ticket) × SameState (table_state self.old) (table_state self.new)) }
         ensures policy { table_policy self.new ≡ table_policy self.old }
         ensures others { IfSome result (λ found. KeepsOthers self.old self.new found.0) }
@@ -133,6 +135,6 @@ impl Table {
         let wait = locks.cancel(ticket).unwrap();
         self.tickets.forget(wait.ticket);
         self.waiters.end_for(&wait, file);
-        Some((file, wait.owner))
+        Some((file, wait))
     }
 }

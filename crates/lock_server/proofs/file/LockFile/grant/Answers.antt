@@ -35,3 +35,12 @@ returns-clause-blocked c = λ ready.
           (c.leaves_blocked.ensures w.if-leaves_blocked.true) ready)
       | else-leaves_blocked w ↦ none_blocked c.args.policy (file_state c.give.new.self) c.if-leaves_blocked.blocked w.blocked-is
     ]
+
+pub returns-clause-freed : goal.returns-clause-freed
+unfolding file_state
+returns-clause-freed c = λ ready others.
+    let left = c.remove_at-wait.ensures.leaves in
+    c.behind.ensures c.args.policy (file_state c.args.self.now) (file_state c.give.new.self) c.args.self.now.ranges
+    (grants_at c.args.policy (file_state c.args.self.now) (file_state c.remove_at-wait.new.self) (file_state c.give.new.self) c.args.i c.remove_at-wait.result left
+    (gets_where_it_stood _ _ _ c.remove_at-wait.result left.leaves.locks c.give.ensures.gets) c.give.ensures.waits ready)
+    others

@@ -14,7 +14,10 @@ use Rattle.lock_server.proofs.SafeLemmas.{moves_given}
 use Rattle.lock_server.proofs.ServerLemmas.{ComesToRest, changes_at_rest, rests, safe_after_join, safe_rested, safe_same}
 use Rattle.lock_server.proofs.StateLemmas.{SameState-itself, state_from_same}
 use Rattle.lock_server.proofs.SweptLemmas.{all_swept_but, bytes_set, swept_with_lock, swept_with_wait}
-use Rattle.lock_server.proofs.server.LockServer.wait.Goals.{After-join, After-set, After-settle}
+use Rattle.lock_server.specs.Freed.{AreBlockedBut}
+use Rattle.lock_server.proofs.KnownLemmas.{settled_known}
+use Rattle.wait_core.specs.declared.Policy.{Policy}
+use Rattle.lock_server.proofs.server.LockServer.wait.Goals.{After-join, After-set, After-settle_among}
 use Rattle.lock_server.proofs.server.LockServer.wait.Goals as goal
 
 pub invariant_of-self : goal.invariant_of-self
@@ -35,8 +38,8 @@ ready c blocked =
     let back = c.blocks-2.ensures.1 (subst (λ (w : Pending). IsWaitBlocked (table_policy c.args.self.now.table) F F.waits w) (sym c.byte_request-wanted.ensures) blocked) in
     let none = c.if-not-blocks.true in cc
 
-rest : (c : After-settle) → ComesToRest (table_policy c.args.self.now.table) (table_state c.set.new.table) c.args.file (table_state c.settle.new.self)
-rest c = rests _ c.set.new.table c.settle.new.self c.args.file c.set.ensures.policy c.settle.ensures.policy c.settle.ensures.settles c.settle.ensures.settled
+rest : (c : After-settle_among) → ComesToRest (table_policy c.args.self.now.table) (table_state c.set.new.table) c.args.file (table_state c.settle_among.new.self)
+rest c = rests _ c.set.new.table c.settle_among.new.self c.args.file c.set.ensures.policy c.settle_among.ensures.policy c.settle_among.ensures.settles c.settle_among.ensures.settled
 
 pub invariant_of-self-then-not-blocks : goal.invariant_of-self-then-not-blocks
 invariant_of-self-then-not-blocks c =
@@ -45,17 +48,17 @@ invariant_of-self-then-not-blocks c =
     let F = (table_state table).files c.args.file in
     let request = byte_request c.args.ticket c.args.owner c.args.span c.args.mode c.args.detect in
     record {
-      safe = safe_rested table c.settle.new.self (c.args.owner ∷ []) (table_state c.set.new.table) c.args.file c.args.self.now.safe (c.settle.ensures.policy ∙ c.set.ensures.policy)
+      safe = safe_rested table c.settle_among.new.self (c.args.owner ∷ []) (table_state c.set.new.table) c.args.file c.args.self.now.safe (c.settle_among.ensures.policy ∙ c.set.ensures.policy)
           (moves_given (table_state table) c.args.file request (table_state c.set.new.table) (free_from_open (table_policy table) F F.waits request (ready at.After-set)) c.in_ok-set.ensures.ok)
-          (rest at.After-settle);
-      swept = all_swept_but table c.settle.new.self c.args.file
-          (λ other differs. c.settle.ensures.others other differs ∙ c.set.ensures.others other differs)
-          (swept_with_lock (table_policy c.set.new.table) (table_state c.set.new.table) c.args.file c.settle.new.self
+          (rest at.After-settle_among);
+      swept = all_swept_but table c.settle_among.new.self c.args.file
+          (λ other differs. c.settle_among.ensures.others other differs ∙ c.set.ensures.others other differs)
+          (swept_with_lock (table_policy c.set.new.table) (table_state c.set.new.table) c.args.file c.settle_among.new.self
           (bytes_set F c.args.owner c.args.span c.args.mode ((table_state c.set.new.table).files c.args.file) c.requires c.in_ok-set.ensures.ok.sets)
-          c.settle.ensures.settles)
+          c.settle_among.ensures.settles)
           c.args.self.now.swept;
-      kept = kept_rested c.set.new.self (through_at c.args.self.now.openings) (table_policy table) (table_state c.set.new.table) c.args.file (table_state c.settle.new.self)
-          (rest at.After-settle) (c.set.ensures.kept c.args.self.now.kept);
+      kept = kept_rested c.set.new.self (through_at c.args.self.now.openings) (table_policy table) (table_state c.set.new.table) c.args.file (table_state c.settle_among.new.self)
+          (rest at.After-settle_among) (c.set.ensures.kept c.args.self.now.kept);
     }
 
 pub returns-then-not-blocks-clause-ok : goal.returns-then-not-blocks-clause-ok
@@ -64,7 +67,7 @@ returns-then-not-blocks-clause-ok c =
     let at = goal.at.returns-then-not-blocks-clause-ok c in
     inr (
       ready at.After-set,
-      (refl, changes_at_rest _ (table_state c.args.self.now.table) c.args.file Bytes c.args.owner c.args.span (Some c.args.mode) _ _ c.in_ok-set.ensures.ok (rest at.After-settle)),
+      (refl, changes_at_rest _ (table_state c.args.self.now.table) c.args.file Bytes c.args.owner c.args.span (Some c.args.mode) _ _ c.in_ok-set.ensures.ok (rest at.After-settle_among)),
     )
 
 pub invariant_of-self-in-Break-branch-3 : goal.invariant_of-self-in-Break-branch-3
@@ -117,3 +120,11 @@ returns-clause-ok c =
     let (blocked, passed, suspends) = waits (goal.at.returns-clause-ok c).After-join in
     subst (λ (w : Pending). WaitComesTo (table_policy c.args.self.now.table) (table_state c.args.self.now.table) c.args.file w told.Waits (table_state c.join.new.self)) c.byte_request-wanted.ensures
     (inl (blocked, inr (passed, (refl, suspends))))
+
+pub settle_among-requires : goal.settle_among-requires
+settle_among-requires c =
+    let table = c.args.self.now.table in
+    let G = (table_state c.set.new.table).files c.args.file in
+    let sets = c.in_ok-set.ensures.ok in
+    subst (λ (policy : Policy). AreBlockedBut policy G c.freed_by_set-freed.result) (sym c.set.ensures.policy)
+    (c.freed_by_set-freed.ensures G sets.sets sets.waits (settled_known table c.args.file c.args.self.now.safe))

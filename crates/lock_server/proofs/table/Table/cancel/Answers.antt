@@ -1,19 +1,17 @@
-use Rattle.std.proofs.Common.{arith, ℕ, ◌≡◌, ◌≢◌, ◌∙◌, inl, inr, refl, sym, ap, subst, Some, None, List, Any}
+use Rattle.std.proofs.Common.{arith, ℕ, ◌≡◌, ◌≢◌, ◌∙◌, inl, inr, refl, sym, ap, Some, None}
 use Rattle.std.proofs.lemmas.Grind.{common_steps}
-use Rattle.lock_server.specs.declared.Pending.{Pending}
 use Rattle.lock_server.specs.declared.tickets.Place.TheVariants.{Reserved, Waits, Granted}
 use Rattle.lock_server.specs.TableView.{entry_of, table_state}
 use Rattle.lock_server.specs.TicketsView.{place_at}
 use Rattle.lock_server.proofs.IndexLemmas.{file_written}
 use Rattle.lock_server.proofs.StateLemmas.{SameFile-itself}
-use Rattle.lock_server.proofs.LeaveLemmas.{Any-at}
 use Rattle.lock_server.proofs.EntryMoves.{leaves_by, left_changes, left_indexed, lent_of_wait, no_wait, not_pending, some_unless, wait_of_ticket}
 use Rattle.lock_server.proofs.table.Table.cancel.Goals as goal
 
 pub returns-in_default : goal.returns-in_default
 returns-in_default c = record {
   some = tt;
-  owner = tt;
+  wait = tt;
   none = (
     not_pending c.args.self.now c.args.ticket (λ file is. (let h : None ≡ Some (Waits file) = sym c.in_default.is ∙ c.place.ensures ∙ is in cc)),
     record { files = λ file. SameFile-itself _; grants = refl; crossed = λ owner. refl },
@@ -31,7 +29,7 @@ returns-in-Reserved c =
       | inr granted ↦ (let h : Some Granted ≡ Some (Waits file) = ap Some (sym granted) ∙ told ∙ is in cc)
     ] in record {
       some = tt;
-      owner = tt;
+      wait = tt;
       none = (not_pending c.args.self.now c.args.ticket none, record { files = λ file. SameFile-itself _; grants = refl; crossed = λ owner. refl });
       policy = refl;
       others = tt;
@@ -78,15 +76,16 @@ returns-clause-some c =
           c.forget.new.self c.end_for.new.self c.unwrap-wait.result c.forget.ensures.grants left.1 left.2 left.3 c.forget.ensures.place c.end_for.ensures;
     }
 
-pub returns-clause-owner : goal.returns-clause-owner
+pub returns-clause-wait : goal.returns-clause-wait
 unfolding table_state entry_of
-returns-clause-owner c =
+returns-clause-wait c =
     let table = c.args.self.now in
     let after = c.cancel.new.self in
     let left = rw c.unwrap-wait.ensures at c.cancel.ensures.some in
-    let wait = c.unwrap-wait.result in
-    let written = file_written table.files (c.get_mut.follows.lender after) c.in-Waits.file _ c.unwrap-locks.result after c.get_mut.ensures.value c.unwrap-locks.ensures (c.get_mut.follows.holds after) in
-    let leaves = leaves_by table.files (c.get_mut.follows.lender after) table.tickets table.waiters c.in-Waits.file c.unwrap-locks.result.now after written.0 written.1 table.indexed
-    c.forget.new.self c.end_for.new.self wait c.forget.ensures.grants left.1 left.2 left.3 c.forget.ensures.place c.end_for.ensures in
-    let IsIt : Pending → Type 0 = λ any. (any.ticket ≡ c.args.ticket) × (any.owner ≡ wait.owner) in
-    subst (λ (waits : List Pending). Any IsIt waits) (sym leaves.place) (Any-at IsIt left.1 left.2 wait (left.0, refl))
+    let written = file_written table.files (c.get_mut.follows.lender after) c.in-Waits.file _ c.unwrap-locks.result after c.get_mut.ensures.value c.unwrap-locks.ensures (c.get_mut.follows.holds after) in (
+      left.0,
+      left.1,
+      left.2,
+      leaves_by table.files (c.get_mut.follows.lender after) table.tickets table.waiters c.in-Waits.file c.unwrap-locks.result.now after written.0 written.1 table.indexed
+          c.forget.new.self c.end_for.new.self c.unwrap-wait.result c.forget.ensures.grants left.1 left.2 left.3 c.forget.ensures.place c.end_for.ensures,
+    )

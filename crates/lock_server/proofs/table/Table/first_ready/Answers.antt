@@ -37,3 +37,6 @@ returns-clause-none c = λ file. elim (cases_lt file (next_of c.loop-file.above)
       settled_untouched (table_policy c.args.self.now) ((table_state c.args.self.now).files file)
       (c.in_default.ensures.none file (above_from_next c.loop-file.above file later))
 ]
+
+pub next_ready-requires : goal.next_ready-requires
+next_ready-requires c = c.nothing.ensures (table_policy c.args.self.now) ((table_state c.args.self.now).files c.in-Some.file)

@@ -2,9 +2,10 @@ use Rattle.std.proofs.Common.{ap, subst, sym}
 use Rattle.std.specs.BTreeMap.{get}
 use Rattle.std.specs.Ordering.{nat_cmp}
 use Rattle.lock_server.specs.Files.{FileState}
-use Rattle.lock_server.specs.FileView.{state_at}
+use Rattle.lock_server.specs.FileView.{file_state, state_at}
+use Rattle.lock_server.specs.Freed.{AreBlockedBut, IsKnown}
 use Rattle.lock_server.specs.TableView.{entry_of, table_policy, table_state}
-use Rattle.lock_server.specs.Waiting.{AreBlockedTo, IsReadyAt}
+use Rattle.lock_server.specs.Waiting.{IsReadyAt}
 use Rattle.lock_server.proofs.EntryMoves.{keeps_room_on}
 use Rattle.lock_server.proofs.GrantedMoves.{granted_indexed, granted_waited, grants_by, lent_of_ready, reserved_stays}
 use Rattle.lock_server.proofs.IndexLemmas.{file_written}
@@ -72,14 +73,18 @@ returns-clause-room c =
     (reserved_stays table.files (c.get_mut.follows.lender c.grant-granted.new.self) table.tickets c.grant.new.self table.waiters table.waiters table.waiters c.args.file c.unwrap-locks.result.now after written.0 written.1 table.indexed table.policy
     c.grant-granted.result.wait grants c.grant.ensures.place)
 
-pub returns-clause-blocked : goal.returns-clause-blocked
+pub returns-clause-known : goal.returns-clause-known
 unfolding table_state table_policy entry_of
-returns-clause-blocked c =
+returns-clause-known c =
     let table = c.args.self.now in
     let after = c.grant-granted.new.self in
     let written = file_written table.files (c.get_mut.follows.lender after) c.args.file _ c.unwrap-locks.result after c.get_mut.ensures.value c.unwrap-locks.ensures (c.get_mut.follows.holds after) in
     let ready : IsReadyAt table.policy (state_at (get nat_cmp table.files c.args.file)) c.in-Some.place = c.in-Some.ensures.ready in
-    let blocked =
-    c.grant-granted.ensures.blocked
-    (subst (λ (F : FileState). IsReadyAt table.policy F c.in-Some.place) (ap state_at written.0) ready) in
-    subst (λ (F : FileState). AreBlockedTo table.policy F c.grant-granted.result.blocked) (sym (ap state_at written.1.here)) blocked
+    let others : AreBlockedBut table.policy (state_at (get nat_cmp table.files c.args.file)) c.args.known.freed = c.requires.others in
+    let here = subst (λ (F : FileState). IsReadyAt table.policy F c.in-Some.place) (ap state_at written.0) ready in
+    let at : IsKnown table.policy (file_state after) c.grant-granted.result.known =
+    record {
+      earliest = c.grant-granted.ensures.blocked here;
+      others = c.grant-granted.ensures.freed here (subst (λ (F : FileState). AreBlockedBut table.policy F c.args.known.freed) (ap state_at written.0) others);
+    } in
+    subst (λ (F : FileState). IsKnown table.policy F c.grant-granted.result.known) (sym (ap state_at written.1.here)) at

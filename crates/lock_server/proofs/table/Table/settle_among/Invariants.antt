@@ -1,9 +1,9 @@
 use Rattle.std.proofs.Common.{◌≡◌, length}
+use Rattle.lock_server.specs.Freed.{IsKnown}
 use Rattle.lock_server.specs.TableRoom.{KeepsRoomOn}
 use Rattle.lock_server.specs.TableView.{KeepsOthers, table_policy, table_state}
-use Rattle.lock_server.specs.Waiting.{AreBlockedTo}
 use Rattle.lock_server.proofs.SettleLemmas.{HasLedOn}
-use Rattle.lock_server.proofs.table.Table.settle.Given as goal
+use Rattle.lock_server.proofs.table.Table.settle_among.Given as goal
 
 -- what was granted so far has led here
 abbrev pub invariant-loop-still : goal.invariant-loop-still
@@ -14,7 +14,7 @@ invariant-loop-still l =
       policy : table_policy l.self ≡ table_policy l.fn.self;
       others : KeepsOthers l.fn.self l.self l.file;
       file : l.file ≡ l.fn.file;
-      blocked : AreBlockedTo (table_policy l.self) ((table_state l.self).files l.file) l.blocked;
+      known : IsKnown (table_policy l.self) ((table_state l.self).files l.file) l.known;
     }
 
 abbrev pub decreases-loop-still : goal.decreases-loop-still
