@@ -19,6 +19,6 @@ pub use devices::{DeviceFault, FromReader, Sink, Source, ToWriter};
 pub use in_threads::{Nobody, replay_in_threads};
 pub use job::{Detail, Job, perform};
 pub use laws::{journals_have_one_verdict, outputs_are_judged_legal};
-pub use replays::{RunFault, parse_script, read_script, replay, sent_counts, write_all};
+pub use replays::{RunFault, parse_script, read_script, replay, sent_counts, text_in, write_all};
 pub use threads::{ThreadReport, replay_threads};
 pub use watch::Watch;

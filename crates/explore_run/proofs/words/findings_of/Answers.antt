@@ -9,7 +9,7 @@ returns-in-None c =
     let rest = c.loop-word.rest.now in
     let is : c.split_once.result ≡ Some (c.in-Some.word, c.in-Some.more) = search rules in
     let cut = cut_at rest c.split_once.result (c.in-Some.word, c.in-Some.more) c.split_once.ensures.cases is in
-    none_named (pieces_of c.args.list.now) (pieces_of rest) (pieces_of c.in-Some.more.now) c.loop-word.findings.items c.in-Some.word.now
+    none_named finding_word (pieces_of c.args.list.now) (pieces_of rest) (pieces_of c.in-Some.more.now) c.loop-word.findings.items c.in-Some.word.now
     c.loop-word.invariant.1 cut c.in-None.ensures
 
 pub loop-word-preserved : goal.loop-word-preserved
@@ -21,8 +21,8 @@ loop-word-preserved c =
     let items : c.push.new.self.items ≡ c.loop-word.findings.items ++ finding ∷ [] = search rules in (
       search rules,
       subst (λ (l : List Finding). pieces_of c.args.list.now ≡ map finding_word l ++ pieces_of c.in-Some.more.now) (sym items)
-          (one_named (pieces_of c.args.list.now) (pieces_of rest) (pieces_of c.in-Some.more.now) c.loop-word.findings.items finding c.in-Some.word.now
-          c.loop-word.invariant.1 cut c.in-Some-finding_of.ensures),
+          (one_named finding_word (pieces_of c.args.list.now) (pieces_of rest) (pieces_of c.in-Some.more.now) c.loop-word.findings.items finding
+          c.in-Some.word.now c.loop-word.invariant.1 cut c.in-Some-finding_of.ensures),
     )
 
 pub returns-in-None-finding_of : goal.returns-in-None-finding_of
@@ -30,7 +30,8 @@ returns-in-None-finding_of c =
     let rest = c.loop-word.rest.now in
     let none : c.split_once.result ≡ None = search rules in
     let whole = whole_at rest c.split_once.result c.split_once.ensures.cases none in
-    none_named (pieces_of c.args.list.now) (pieces_of rest) [] c.loop-word.findings.items rest c.loop-word.invariant.1 whole c.in-None-finding_of.ensures
+    none_named finding_word (pieces_of c.args.list.now) (pieces_of rest) [] c.loop-word.findings.items rest c.loop-word.invariant.1 whole
+    c.in-None-finding_of.ensures
 
 pub returns : goal.returns
 returns c =
@@ -40,6 +41,6 @@ returns c =
     let finding = c.in-Some-finding_of-2.finding in
     let items : c.push-in-Some-finding_of-2.new.self.items ≡ c.loop-word.findings.items ++ finding ∷ [] = search rules in
     subst (λ (l : List Finding). pieces_of c.args.list.now ≡ map finding_word l) (sym items)
-    (one_named (pieces_of c.args.list.now) (pieces_of rest) [] c.loop-word.findings.items finding rest c.loop-word.invariant.1 whole
+    (one_named finding_word (pieces_of c.args.list.now) (pieces_of rest) [] c.loop-word.findings.items finding rest c.loop-word.invariant.1 whole
     c.in-Some-finding_of-2.ensures
     ∙ append-nil (map finding_word (c.loop-word.findings.items ++ finding ∷ [])))

@@ -1,0 +1,183 @@
+//! Runs of small scripts, of each of which it was derived by hand what it shows.
+use replay_core::{Detail, FromReader, ToWriter};
+use shown_run::{RunOutcome, replay_judged, run_findings_of};
+use std::alloc::Global;
+use std::process::Abort;
+use std::test::Fail;
+
+/// Process 2 is told `EDEADLK`, and goes on, so that nobody waits at the end.
+const CYCLE: &[u8] = b"1 open 0 rw
+1 fork 2
+1 setlk 0 w set 0 1
+2 setlk 0 w set 1 1
+1 setlkw 0 w set 1 1
+2 setlkw 0 w set 0 1
+2 setlk 0 u set 1 1
+";
+
+/// A close of one of two descriptors removes the lock; process 2 waits behind a flock at the end, and process 3 was never born.
+const LOSSES: &[u8] = b"1 open 0 rw
+1 open 0 rw
+1 setlk 0 w set 0 1
+1 close 1
+1 flock 0 ex
+1 fork 2
+2 open 0 rw
+2 flock 1 sh
+3 exit
+";
+
+/// A flock that is refused has lost its lock; a signal ends a wait; a kill takes a lock.
+const ENDS: &[u8] = b"1 open 0 rw
+1 fork 2
+2 open 0 rw
+1 flock 0 sh
+2 flock 1 sh
+2 flock 1 ex nb
+1 setlk 0 w set 0 1
+2 setlkw 0 w set 0 1
+1 signal 2
+1 fork 3
+3 setlk 0 w set 5 1
+1 kill 3
+";
+
+/// A descriptor that is not open, and a get command that is answered.
+const CLOSED: &[u8] = b"1 open 0 rw
+1 getlk 0 r set 0 1
+1 close 1
+";
+
+/// What comes of the run of the script where what this list names is to fail; `None` where it names nothing.
+fn outcome_of(alloc: Global, script: &[u8], list: &str) -> Result<Option<RunOutcome>, Fail> {
+    let Some(fail_on) = run_findings_of(alloc, list)? else {
+        return Ok(None);
+    };
+    let mut source = FromReader::new(script);
+    let mut sink = ToWriter::new(Vec::new(alloc));
+    Ok(Some(replay_judged(alloc, Detail::Plain, &fail_on, &mut source, &mut sink)?))
+}
+
+#[test]
+fn a_cycle(rt: HostRuntime) -> Result<(), Fail> {
+    let alloc = rt.alloc();
+    assert_eq!(rt;
+        outcome_of(alloc, CYCLE, "deadlock")?,
+        Some(RunOutcome::Failed)
+    );
+    assert_eq!(rt;
+        outcome_of(alloc, CYCLE, "busy,deadlock")?,
+        Some(RunOutcome::Failed)
+    );
+    assert_eq!(rt;
+        outcome_of(
+            alloc,
+            CYCLE,
+            "stuck,dropped,lost,busy,interrupted,killed,unborn,badfd"
+        )?,
+        Some(RunOutcome::Passed)
+    );
+    Ok(())
+}
+
+#[test]
+fn losses(rt: HostRuntime) -> Result<(), Fail> {
+    let alloc = rt.alloc();
+    assert_eq!(rt;
+        outcome_of(alloc, LOSSES, "dropped")?,
+        Some(RunOutcome::Failed)
+    );
+    assert_eq!(rt;
+        outcome_of(alloc, LOSSES, "stuck")?,
+        Some(RunOutcome::Failed)
+    );
+    assert_eq!(rt;
+        outcome_of(alloc, LOSSES, "unborn")?,
+        Some(RunOutcome::Failed)
+    );
+    assert_eq!(rt;
+        outcome_of(alloc, LOSSES, "deadlock,lost,busy,interrupted,killed,badfd")?,
+        Some(RunOutcome::Passed)
+    );
+    Ok(())
+}
+
+#[test]
+fn ends(rt: HostRuntime) -> Result<(), Fail> {
+    let alloc = rt.alloc();
+    assert_eq!(rt; outcome_of(alloc, ENDS, "lost")?, Some(RunOutcome::Failed));
+    assert_eq!(rt; outcome_of(alloc, ENDS, "busy")?, Some(RunOutcome::Failed));
+    assert_eq!(rt;
+        outcome_of(alloc, ENDS, "interrupted")?,
+        Some(RunOutcome::Failed)
+    );
+    assert_eq!(rt;
+        outcome_of(alloc, ENDS, "killed")?,
+        Some(RunOutcome::Failed)
+    );
+    assert_eq!(rt;
+        outcome_of(alloc, ENDS, "deadlock,stuck,dropped,unborn,badfd")?,
+        Some(RunOutcome::Passed)
+    );
+    Ok(())
+}
+
+#[test]
+fn a_bad_descriptor(rt: HostRuntime) -> Result<(), Fail> {
+    let alloc = rt.alloc();
+    assert_eq!(rt;
+        outcome_of(alloc, CLOSED, "badfd")?,
+        Some(RunOutcome::Failed)
+    );
+    assert_eq!(rt;
+        outcome_of(
+            alloc,
+            CLOSED,
+            "deadlock,stuck,dropped,lost,busy,interrupted,killed,unborn"
+        )?,
+        Some(RunOutcome::Passed)
+    );
+    Ok(())
+}
+
+#[test]
+fn lists(rt: HostRuntime) -> Result<(), Fail> {
+    let alloc = rt.alloc();
+    for list in [
+        "",
+        "badfd,",
+        ",busy",
+        "badfds",
+        "EBADF",
+        "busy busy",
+        "Busy",
+    ] {
+        assert_eq!(rt; outcome_of(alloc, CLOSED, list)?, None);
+    }
+    assert_eq!(rt;
+        outcome_of(alloc, CLOSED, "busy,busy,badfd,badfd")?,
+        Some(RunOutcome::Failed)
+    );
+    Ok(())
+}
+
+/// 5,000 requests, the last of which is refused.
+#[test]
+fn a_long_run(rt: HostRuntime) -> Result<(), Fail> {
+    let alloc = rt.alloc();
+    let mut script = Vec::new(alloc);
+    script.extend_from_slice(b"1 open 0 rw\n1 setlk 0 w set 0 1\n1 fork 2\n")?;
+    for _ in 0..5_000u32 {
+        script.extend_from_slice(b"2 seek 0 0\n")?;
+    }
+    assert_eq!(rt;
+        outcome_of(alloc, &script, "busy,stuck,dropped,badfd")?,
+        Some(RunOutcome::Passed)
+    );
+    script.extend_from_slice(b"2 setlk 0 r set 0 0\n")?;
+    assert_eq!(rt;
+        outcome_of(alloc, &script, "stuck,badfd,busy")?,
+        Some(RunOutcome::Failed)
+    );
+    Ok(())
+}
