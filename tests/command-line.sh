@@ -137,6 +137,17 @@ check 0 state.sixth empty state --state=6
 check 0 state.sixth empty empty --explain state --state 6
 check 0 state.all empty empty --state all state
 check 0 sizes.fifth empty empty --state 5 sizes
+# A picture of the run, by time.
+check 0 state.drawn empty empty --timeline state
+check 0 state.drawn empty state --timeline
+check 0 empty empty empty --timeline empty
+check 0 changes-of-one.drawn empty empty --threads --timeline changes-of-one
+check 2 empty faulty.err empty --timeline faulty
+check 2 empty timeline.err empty --timeline --explain state
+check 2 empty timeline.err empty --timeline --json state
+check 2 empty timeline.err empty --check --timeline state
+check 2 empty timeline.err empty --timeline --state all state
+check 2 empty timeline.err empty --fail-on busy --timeline state
 check 0 changes.out empty empty --state changes changes
 check 0 changes.out empty changes --explain --state=changes
 check 0 changes.one empty empty --threads --state changes changes-of-one
@@ -157,6 +168,29 @@ check 2 empty both-flags.err conversion --check --state all --threads
 check 2 empty explain-check.err conversion --check --state all --explain
 check 2 empty state-twice.err empty --state 1 --state all
 check 2 empty state-empty.err empty state --state
+
+# What a run shows that is to fail: the output is the same, and the status is 3. By its last event, by one before, and by its end.
+check 3 deadlock.out empty empty --fail-on deadlock deadlock
+check 3 deadlock.out empty deadlock --fail-on=busy,deadlock -
+check 0 deadlock.out empty empty deadlock --fail-on stuck,dropped,lost,busy,interrupted,killed,unborn,badfd
+for finding in dropped lost busy killed unborn; do check 3 explained.out empty explained --explain --fail-on "$finding"; done
+check 0 explained.out empty empty --explain --fail-on deadlock,stuck,interrupted,badfd explained
+check 3 crossed.out empty empty --fail-on badfd,stuck crossed
+check 0 crossed.out empty empty --fail-on deadlock crossed
+check 3 unopened.out empty empty --fail-on badfd unopened
+check 0 unopened.out empty empty --fail-on deadlock,stuck,dropped,lost,busy,interrupted,killed,unborn unopened
+check 0 handed-over.state empty handed-over --fail-on dropped,badfd --state 4
+check 0 empty.out empty empty --fail-on unborn,badfd
+check 2 empty faulty.err empty --fail-on busy faulty
+check 1 empty read-failed.err empty --fail-on busy missing
+check 2 empty no-list.err conversion --fail-on ''
+check 2 empty no-list.err conversion --fail-on badfd,
+check 2 empty no-list.err empty --explain --fail-on EBADF missing
+check 2 empty no-list.err crossed --explore --fail-on badfd
+check 2 empty fail-on-threads.err empty --threads --fail-on busy missing
+check 2 empty fail-on-check.err empty --fail-on busy --check missing
+check 2 empty fail-on-twice.err empty --fail-on busy --fail-on lost
+check 2 empty fail-on-empty.err empty conversion --fail-on
 
 # Every order: two processes that take two bytes in opposite order, where either may be stuck behind the other that never lets go, or be told
 # EDEADLK. A run alone is legal as it stands; nothing is printed where no order shows the finding. The limit leaves out the fourth situation.

@@ -5,4 +5,4 @@ mod objects;
 mod writer;
 
 pub use objects::object_of;
-pub use writer::JsonWriter;
+pub use writer::Objects;

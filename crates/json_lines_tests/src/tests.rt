@@ -1,7 +1,8 @@
 //! The objects of lines, each written by hand from the table of kinds.
 ghost use Rattle.std.specs.Prelude.{◌<◌};
 
-use json_lines::JsonWriter;
+use json_lines::Objects;
+use line_writer::LineWriter;
 use std::alloc::Global;
 use std::io::Write;
 use std::process::Abort;
@@ -119,11 +120,11 @@ const ROWS: [(&str, &str); 26] = [
 fn written(alloc: Global, bytes: &[u8], at_once: usize) -> Result<Vec<u8>, Fail>
     requires { 0 < at_once }
 {
-    let mut writer = JsonWriter::new(alloc, Vec::new(alloc));
+    let mut writer = LineWriter::new(alloc, Objects::new(alloc, Vec::new(alloc)));
     for part in bytes.chunks(at_once) {
         writer.write_all(part)?;
     }
-    Ok(writer.into_inner())
+    Ok(writer.into_inner().into_inner())
 }
 
 /// Each line becomes its object, whether it comes at once or byte by byte.
@@ -170,7 +171,7 @@ fn a_line_of_a_million_bytes(rt: HostRuntime) -> Result<(), Fail> {
 /// What isn't text is refused, and it isn't for want of memory.
 #[test]
 fn no_text(rt: HostRuntime) {
-    let mut writer = JsonWriter::new(rt.alloc(), Vec::new(rt.alloc()));
+    let mut writer = LineWriter::new(rt.alloc(), Objects::new(rt.alloc(), Vec::new(rt.alloc())));
     assert!(rt; writer.write_all(b"\xff\n").is_err());
     assert_eq!(rt; writer.refused(), None);
 }

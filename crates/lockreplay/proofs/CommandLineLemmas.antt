@@ -15,7 +15,7 @@ use Rattle.std.specs.Str.{bytes_eq}
 use Rattle.clap.specs.declared.error.Error.{Error}
 use Rattle.clap.specs.declared.parser.matches.ArgMatches.{ArgMatches}
 use Rattle.clap.proofs.WalkLemmas.{first_value-rows, one_text-rows}
-use Rattle.lockreplay.specs.CommandLine.{FollowsUsage, Asks, Flag, Threads, Explain, Check, IsGiven, IsPlain, command_line, file_of, state_in, flag_in, flag_name, flag_rule, flag_word, has_flag, is_same_flag}
+use Rattle.lockreplay.specs.CommandLine.{FollowsUsage, Asks, Flag, Threads, Explain, Check, IsGiven, IsPlain, command_line, fail_on_in, file_of, state_in, flag_in, flag_name, flag_rule, flag_word, has_flag, is_same_flag}
 use Rattle.lockreplay.specs.declared.options.Options.{Options}
 
 -- the first value of an argument, as FILE or the word behind --state, is that of the words
@@ -111,14 +111,14 @@ walk_value h position word rest reads =
 
 -- ---- the command lines of such words
 
--- what stands behind --state, and the file
-abbrev values_of : List Row → Option Text × Option Text
-values_of rows = (first_of (codes "state") rows, first_of (codes "file") rows)
+-- what stands behind --state and --fail-on, and the file
+abbrev values_of : List Row → Option Text × Option Text × Option Text
+values_of rows = (first_of (codes "state") rows, first_of (codes "fail-on") rows, first_of (codes "file") rows)
 
-abbrev values_in : List Text → Option Text × Option Text
+abbrev values_in : List Text → Option Text × Option Text × Option Text
 values_in words = values_of (matches_of command_line words)
 
-no_values : (name : Text) → values_in (name ∷ []) ≡ (None, None)
+no_values : (name : Text) → values_in (name ∷ []) ≡ (None, None, None)
 unfolding clap_on_literals
 no_values name = refl
 
@@ -126,7 +126,7 @@ no_fault : (name : Text) → fault_of command_line (name ∷ []) ≡ []
 unfolding clap_on_literals
 no_fault name = refl
 
-one_values : (name word : Text) → ReadsAsValue word → values_in (name ∷ word ∷ []) ≡ (None, Some word)
+one_values : (name word : Text) → ReadsAsValue word → values_in (name ∷ word ∷ []) ≡ (None, None, Some word)
 one_values name word reads = ap (λ w. values_of (finished arguments w.held)) (walked_value nothing_held 1 word reads)
 
 -- what may fail behind the walk over the words
@@ -169,7 +169,7 @@ no_flag_one name word Explain reads = ap (λ w. one_of (flag_name Explain) (fini
 no_flag_one name word Check reads = ap (λ w. one_of (flag_name Check) (finished arguments w.held)) (walked_value nothing_held 1 word reads)
 
 -- with a flag alone
-flag_values : (name : Text) (flag : Flag) → values_in (name ∷ flag_word flag ∷ []) ≡ (None, None)
+flag_values : (name : Text) (flag : Flag) → values_in (name ∷ flag_word flag ∷ []) ≡ (None, None, None)
 unfolding clap_on_literals
 flag_values name Threads = refl
 flag_values name Explain = refl
@@ -198,7 +198,7 @@ abbrev flag_held : Flag → Held
 flag_held flag = reacted arguments (filled (flag_rule (flag_name flag))) [] nothing_held
 
 -- with a flag before a file
-first_values : (name word : Text) (flag : Flag) → ReadsAsValue word → values_in (name ∷ flag_word flag ∷ word ∷ []) ≡ (None, Some word)
+first_values : (name word : Text) (flag : Flag) → ReadsAsValue word → values_in (name ∷ flag_word flag ∷ word ∷ []) ≡ (None, None, Some word)
 unfolding clap_on_literals
 first_values name word Threads reads = ap (λ w. values_of (finished arguments w.held)) (walked_value (flag_held Threads) 1 word reads)
 first_values name word Explain reads = ap (λ w. values_of (finished arguments w.held)) (walked_value (flag_held Explain) 1 word reads)
@@ -227,7 +227,7 @@ first_fault name word Check reads =
     ap₂ (λ k w. or_else k (behind w)) (walk_value (flag_held Check) 1 word [] reads) (walked_value (flag_held Check) 1 word reads)
 
 -- with a flag behind a file
-last_values : (name word : Text) (flag : Flag) → ReadsAsValue word → values_in (name ∷ word ∷ flag_word flag ∷ []) ≡ (None, Some word)
+last_values : (name word : Text) (flag : Flag) → ReadsAsValue word → values_in (name ∷ word ∷ flag_word flag ∷ []) ≡ (None, None, Some word)
 unfolding clap_on_literals
 last_values name word Threads reads =
     ap (λ w. values_of (finished arguments (walked arguments [] w (flag_word Threads)).held)) (walked_value nothing_held 1 word reads)
@@ -280,7 +280,7 @@ twice_fault name Check rest = refl
 
 -- with two flags, one before the other
 two_values : (name : Text) (first second : Flag) → is_same_flag first second ≡ false
-    → values_in (name ∷ flag_word first ∷ flag_word second ∷ []) ≡ (None, None)
+    → values_in (name ∷ flag_word first ∷ flag_word second ∷ []) ≡ (None, None, None)
 unfolding clap_on_literals
 two_values name Threads Threads other = absurd (cc)
 two_values name Threads Explain other = refl
@@ -330,47 +330,71 @@ two_fault name Check Threads other = refl
 two_fault name Check Explain other = refl
 two_fault name Check Check other = absurd (cc)
 
--- ---- a word behind --state
+-- ---- a word behind --state or --fail-on
 
--- the option waits for its value
-abbrev for_state : Waiting
-for_state = option (codes "state")
-
--- the walk there
-abbrev asking : Held → Walk
-asking h = record { held = h; waiting = for_state; position = 1; is_trailing = false; stopped = None }
+-- the walk where the option of this name waits for its value
+abbrev asking : Text → Held → Walk
+asking name h = record { held = h; waiting = option name; position = 1; is_trailing = false; stopped = None }
 
 -- what the word comes to there
-abbrev taken : Text → Held → Held × Step
-taken word h = plain_word arguments for_state word h
+abbrev taken : Text → Text → Held → Held × Step
+taken name word h = plain_word arguments (option name) word h
 
-walked_behind : (h : Held) (word : Text) → ReadsAsValue word
-    → walked arguments [] (asking h) word ≡ after_step arguments word (asking h) (taken word h).0 (taken word h).1
+walked_behind : (name : Text) (h : Held) (word : Text) → ReadsAsValue word
+    → walked arguments [] (asking name h) word ≡ after_step arguments word (asking name h) (taken name word h).0 (taken name word h).1
 unfolding walked
-walked_behind h word reads = ap (λ m. after_step arguments word (asking h) m.0 m.1) (word_read for_state h 1 word reads)
+walked_behind name h word reads = ap (λ m. after_step arguments word (asking name h) m.0 m.1) (word_read (option name) h 1 word reads)
 
-fault_behind : (h : Held) (word : Text) → ReadsAsValue word → walk_fault line [] (asking h) (word ∷ []) ≡ []
+fault_behind : (name : Text) (h : Held) (word : Text) → ReadsAsValue word → step_fault line 1 (taken name word h).0 (taken name word h).1 ≡ []
+    → walk_fault line [] (asking name h) (word ∷ []) ≡ []
 unfolding walk_fault
-fault_behind h word reads =
-    ap₂ (λ k l. or_else (or_else k l) []) (word_passes for_state h word reads) (ap (λ m. step_fault line 1 m.0 m.1) (word_read for_state h 1 word reads))
+fault_behind name h word reads none =
+    ap₂ (λ k l. or_else (or_else k l) []) (word_passes (option name) h word reads)
+    (ap (λ m. step_fault line 1 m.0 m.1) (word_read (option name) h 1 word reads) ∙ none)
 
 -- what is held behind --state
 abbrev state_held : Held
 state_held = (walk arguments [] nothing_held (codes "--state" ∷ [])).held
 
-state_values : (name word : Text) → ReadsAsValue word → values_in (name ∷ codes "--state" ∷ word ∷ []) ≡ (Some word, None)
+state_values : (name word : Text) → ReadsAsValue word → values_in (name ∷ codes "--state" ∷ word ∷ []) ≡ (Some word, None, None)
 unfolding clap_on_literals
-state_values name word reads = ap (λ w. values_of (finished arguments w.held)) (walked_behind state_held word reads)
+state_values name word reads = ap (λ w. values_of (finished arguments w.held)) (walked_behind (codes "state") state_held word reads)
 
 state_told : (name word : Text) (flag : Flag) → ReadsAsValue word → flag_in flag (name ∷ codes "--state" ∷ word ∷ []) ≡ Some (codes "false")
 unfolding clap_on_literals
-state_told name word Threads reads = ap (λ w. one_of (flag_name Threads) (finished arguments w.held)) (walked_behind state_held word reads)
-state_told name word Explain reads = ap (λ w. one_of (flag_name Explain) (finished arguments w.held)) (walked_behind state_held word reads)
-state_told name word Check reads = ap (λ w. one_of (flag_name Check) (finished arguments w.held)) (walked_behind state_held word reads)
+state_told name word Threads reads =
+    ap (λ w. one_of (flag_name Threads) (finished arguments w.held)) (walked_behind (codes "state") state_held word reads)
+state_told name word Explain reads =
+    ap (λ w. one_of (flag_name Explain) (finished arguments w.held)) (walked_behind (codes "state") state_held word reads)
+state_told name word Check reads =
+    ap (λ w. one_of (flag_name Check) (finished arguments w.held)) (walked_behind (codes "state") state_held word reads)
 
 state_fault : (name word : Text) → ReadsAsValue word → fault_of command_line (name ∷ codes "--state" ∷ word ∷ []) ≡ []
 unfolding clap_on_literals
-state_fault name word reads = ap₂ (λ k w. or_else k (behind w)) (fault_behind state_held word reads) (walked_behind state_held word reads)
+state_fault name word reads =
+    ap₂ (λ k w. or_else k (behind w)) (fault_behind (codes "state") state_held word reads refl) (walked_behind (codes "state") state_held word reads)
+
+-- what is held behind --fail-on
+abbrev fail_on_held : Held
+fail_on_held = (walk arguments [] nothing_held (codes "--fail-on" ∷ [])).held
+
+fail_on_values : (name word : Text) → ReadsAsValue word → values_in (name ∷ codes "--fail-on" ∷ word ∷ []) ≡ (None, Some word, None)
+unfolding clap_on_literals
+fail_on_values name word reads = ap (λ w. values_of (finished arguments w.held)) (walked_behind (codes "fail-on") fail_on_held word reads)
+
+fail_on_told : (name word : Text) (flag : Flag) → ReadsAsValue word → flag_in flag (name ∷ codes "--fail-on" ∷ word ∷ []) ≡ Some (codes "false")
+unfolding clap_on_literals
+fail_on_told name word Threads reads =
+    ap (λ w. one_of (flag_name Threads) (finished arguments w.held)) (walked_behind (codes "fail-on") fail_on_held word reads)
+fail_on_told name word Explain reads =
+    ap (λ w. one_of (flag_name Explain) (finished arguments w.held)) (walked_behind (codes "fail-on") fail_on_held word reads)
+fail_on_told name word Check reads =
+    ap (λ w. one_of (flag_name Check) (finished arguments w.held)) (walked_behind (codes "fail-on") fail_on_held word reads)
+
+fail_on_fault : (name word : Text) → ReadsAsValue word → fault_of command_line (name ∷ codes "--fail-on" ∷ word ∷ []) ≡ []
+unfolding clap_on_literals
+fail_on_fault name word reads =
+    ap₂ (λ k w. or_else k (behind w)) (fault_behind (codes "fail-on") fail_on_held word reads refl) (walked_behind (codes "fail-on") fail_on_held word reads)
 
 -- ---- results
 
@@ -394,22 +418,23 @@ of_each P threads explain check Check = check
 abbrev HasOptions : List Text → Result Options Error → Type 0
 HasOptions words result =
     IfOk result (λ options. (option_map (λ f. f.now) options.file ≡ file_of words) × (option_map (λ w. w.now) options.state ≡ state_in words)
-    × ((flag : Flag) → IsGiven (flag_in flag words) (has_flag options flag)))
+    × (option_map (λ w. w.now) options.fail_on ≡ fail_on_in words) × ((flag : Flag) → IsGiven (flag_in flag words) (has_flag options flag)))
 
--- what clap states of words: these flags are given, this stands behind --state, and this is the file
-record SayThat (words : List Text) (given : Flag → Bool) (state file : Option Text) : Type 0 where
+-- what clap states of words: these flags are given, this stands behind --state, and this behind --fail-on, and this is the file
+record SayThat (words : List Text) (given : Flag → Bool) (state fail_on file : Option Text) : Type 0 where
   flags_are : (flag : Flag) → flag_in flag words ≡ Some (flag_text (given flag))
-  values_are : values_in words ≡ (state, file)
+  values_are : values_in words ≡ (state, fail_on, file)
   no_fault : fault_of command_line words ≡ []
 
-asks : (words : List Text) (given : Flag → Bool) (state file : Option Text) (result : Result Options Error)
-    → HasOptions words result → FailsBy (fault_of command_line words) result → SayThat words given state file → Asks given state file result
-asks words given state file (Ok options) has fails say = (
-  λ flag. given_is (has_flag options flag) (given flag) (subst (λ text. IsGiven text (has_flag options flag)) (say.flags_are flag) (has.2 flag)),
-  has.1 ∙ ap (λ (v : Option Text × Option Text). v.0) say.values_are,
-  has.0 ∙ ap (λ (v : Option Text × Option Text). v.1) say.values_are,
+asks : (words : List Text) (given : Flag → Bool) (state fail_on file : Option Text) (result : Result Options Error)
+    → HasOptions words result → FailsBy (fault_of command_line words) result → SayThat words given state fail_on file → Asks given state fail_on file result
+asks words given state fail_on file (Ok options) has fails say = (
+  λ flag. given_is (has_flag options flag) (given flag) (subst (λ text. IsGiven text (has_flag options flag)) (say.flags_are flag) (has.3 flag)),
+  has.1 ∙ ap (λ (v : Option Text × Option Text × Option Text). v.0) say.values_are,
+  has.2 ∙ ap (λ (v : Option Text × Option Text × Option Text). v.1) say.values_are,
+  has.0 ∙ ap (λ (v : Option Text × Option Text × Option Text). v.2) say.values_are,
 )
-asks words given state file (Err error) has fails say = elim (subst (λ kinds. HasKind kinds error) say.no_fault fails) [
+asks words given state fail_on file (Err error) has fails say = elim (subst (λ kinds. HasKind kinds error) say.no_fault fails) [
   | inl memory ↦ memory
   | inr among ↦ absurd among
 ]
@@ -423,27 +448,27 @@ is_refused words (Ok options) kind fails refused =
 is_refused words (Err error) kind fails refused = refl
 
 -- the words are these, of which clap states so much
-asks_as : (words these : List Text) (given : Flag → Bool) (state file : Option Text) (result : Result Options Error)
-    → HasOptions words result → FailsBy (fault_of command_line words) result → words ≡ these → SayThat these given state file
-    → Asks given state file result
-asks_as words these given state file result has fails e say =
-    asks words given state file result has fails (subst (λ (ws : List Text). SayThat ws given state file) (sym e) say)
+asks_as : (words these : List Text) (given : Flag → Bool) (state fail_on file : Option Text) (result : Result Options Error)
+    → HasOptions words result → FailsBy (fault_of command_line words) result → words ≡ these → SayThat these given state fail_on file
+    → Asks given state fail_on file result
+asks_as words these given state fail_on file result has fails e say =
+    asks words given state fail_on file result has fails (subst (λ (ws : List Text). SayThat ws given state fail_on file) (sym e) say)
 
 refused_as : (words these : List Text) (result : Result Options Error) (kind : ErrorKind) → FailsBy (fault_of command_line words) result
     → words ≡ these → fault_of command_line these ≡ kind ∷ [] → IsErr result
 refused_as words these result kind fails e refused = is_refused words result kind fails (ap (fault_of command_line) e ∙ refused)
 
-say_alone : (name : Text) (flag : Flag) → SayThat (name ∷ flag_word flag ∷ []) (is_same_flag flag) None None
+say_alone : (name : Text) (flag : Flag) → SayThat (name ∷ flag_word flag ∷ []) (is_same_flag flag) None None None
 say_alone name flag = record { flags_are = flag_told name flag; values_are = flag_values name flag; no_fault = flag_fault name flag }
 
-say_first : (name word : Text) (flag : Flag) → ReadsAsValue word → SayThat (name ∷ flag_word flag ∷ word ∷ []) (is_same_flag flag) None (Some word)
+say_first : (name word : Text) (flag : Flag) → ReadsAsValue word → SayThat (name ∷ flag_word flag ∷ word ∷ []) (is_same_flag flag) None None (Some word)
 say_first name word flag reads = record {
   flags_are = λ other. first_told name word flag other reads;
   values_are = first_values name word flag reads;
   no_fault = first_fault name word flag reads;
 }
 
-say_last : (name word : Text) (flag : Flag) → ReadsAsValue word → SayThat (name ∷ word ∷ flag_word flag ∷ []) (is_same_flag flag) None (Some word)
+say_last : (name word : Text) (flag : Flag) → ReadsAsValue word → SayThat (name ∷ word ∷ flag_word flag ∷ []) (is_same_flag flag) None None (Some word)
 say_last name word flag reads = record {
   flags_are = λ other. last_told name word flag other reads;
   values_are = last_values name word flag reads;
@@ -451,45 +476,53 @@ say_last name word flag reads = record {
 }
 
 say_two : (name : Text) (first second : Flag) → is_same_flag first second ≡ false
-    → SayThat (name ∷ flag_word first ∷ flag_word second ∷ []) (λ flag. is_same_flag first flag || is_same_flag second flag) None None
+    → SayThat (name ∷ flag_word first ∷ flag_word second ∷ []) (λ flag. is_same_flag first flag || is_same_flag second flag) None None None
 say_two name first second other = record {
   flags_are = λ flag. two_told name first second flag other;
   values_are = two_values name first second other;
   no_fault = two_fault name first second other;
 }
 
-say_none : (name : Text) → SayThat (name ∷ []) (λ flag. false) None None
+say_none : (name : Text) → SayThat (name ∷ []) (λ flag. false) None None None
 say_none name = record { flags_are = no_flag name; values_are = no_values name; no_fault = no_fault name }
 
-say_one : (name word : Text) → ReadsAsValue word → SayThat (name ∷ word ∷ []) (λ flag. false) None (Some word)
+say_one : (name word : Text) → ReadsAsValue word → SayThat (name ∷ word ∷ []) (λ flag. false) None None (Some word)
 say_one name word reads = record {
   flags_are = λ flag. no_flag_one name word flag reads;
   values_are = one_values name word reads;
   no_fault = one_fault name word reads;
 }
 
-say_state : (name word : Text) → ReadsAsValue word → SayThat (name ∷ codes "--state" ∷ word ∷ []) (λ flag. false) (Some word) None
+say_state : (name word : Text) → ReadsAsValue word → SayThat (name ∷ codes "--state" ∷ word ∷ []) (λ flag. false) (Some word) None None
 say_state name word reads = record {
   flags_are = λ flag. state_told name word flag reads;
   values_are = state_values name word reads;
   no_fault = state_fault name word reads;
 }
 
+say_fail_on : (name word : Text) → ReadsAsValue word → SayThat (name ∷ codes "--fail-on" ∷ word ∷ []) (λ flag. false) None (Some word) None
+say_fail_on name word reads = record {
+  flags_are = λ flag. fail_on_told name word flag reads;
+  values_are = fail_on_values name word reads;
+  no_fault = fail_on_fault name word reads;
+}
+
 pub follows_usage : (words : List Text) (result : Result Options Error) → HasOptions words result → FailsBy (fault_of command_line words) result
     → FollowsUsage words result
 follows_usage words result has fails = record {
-  none = λ name e. asks_as words _ (λ flag. false) None None result has fails e (say_none name);
-  one = λ name word plain e. asks_as words _ (λ flag. false) None (Some word) result has fails e (say_one name word (plain_value word plain));
+  none = λ name e. asks_as words _ (λ flag. false) None None None result has fails e (say_none name);
+  one = λ name word plain e. asks_as words _ (λ flag. false) None None (Some word) result has fails e (say_one name word (plain_value word plain));
   more = λ name first second rest plain_first plain_second e.
       refused_as words _ result kind.UnknownArgument fails e
       (more_fault name first second rest (plain_value first plain_first) (plain_value second plain_second));
-  flag = λ name flag e. asks_as words _ (is_same_flag flag) None None result has fails e (say_alone name flag);
+  flag = λ name flag e. asks_as words _ (is_same_flag flag) None None None result has fails e (say_alone name flag);
   flag_first = λ name word flag plain e.
-      asks_as words _ (is_same_flag flag) None (Some word) result has fails e (say_first name word flag (plain_value word plain));
+      asks_as words _ (is_same_flag flag) None None (Some word) result has fails e (say_first name word flag (plain_value word plain));
   flag_last = λ name word flag plain e.
-      asks_as words _ (is_same_flag flag) None (Some word) result has fails e (say_last name word flag (plain_value word plain));
+      asks_as words _ (is_same_flag flag) None None (Some word) result has fails e (say_last name word flag (plain_value word plain));
   twice = λ name flag rest e. refused_as words _ result kind.ArgumentConflict fails e (twice_fault name flag rest);
   two = λ name first second other e.
-      asks_as words _ (λ flag. is_same_flag first flag || is_same_flag second flag) None None result has fails e (say_two name first second other);
-  state = λ name word plain e. asks_as words _ (λ flag. false) (Some word) None result has fails e (say_state name word (plain_value word plain));
+      asks_as words _ (λ flag. is_same_flag first flag || is_same_flag second flag) None None None result has fails e (say_two name first second other);
+  state = λ name word plain e. asks_as words _ (λ flag. false) (Some word) None None result has fails e (say_state name word (plain_value word plain));
+  fail_on = λ name word plain e. asks_as words _ (λ flag. false) None (Some word) None result has fails e (say_fail_on name word (plain_value word plain));
 }

@@ -53,12 +53,15 @@ is_same_flag Check Check = true
 abbrev pub versioned_app : App
 versioned_app = on_top (λ shape. record shape { has_version = true }) (new_app (codes "lockreplay"))
 
--- the command `lockreplay [--threads] [--explain] [--state N] [--check] [FILE]`, to which clap adds `--help`, `-h`, `--version` and `-V`
+-- the command `lockreplay [--threads] [--explain] [--state N] [--check] [--fail-on LIST] [FILE]`, to which clap adds `--help`, `-h`, `--version`
+-- and `-V`
 abbrev pub command_line : App
 command_line =
     with_rule
+    (with_rule
     (with_rule (with_rule (with_rule (with_rule versioned_app (flag_rule (codes "threads"))) (flag_rule (codes "explain"))) (option_rule (codes "state")))
     (flag_rule (codes "check")))
+    (option_rule (codes "fail-on")))
     file_argument
 
 -- the FILE of these words, the first of which is the program's name, by the matches that clap states for them
@@ -68,6 +71,10 @@ file_of words = first_of (codes "file") (matches_of command_line words)
 -- the word behind --state in these words, by the same matches
 abbrev pub state_in : List Text → Option Text
 state_in words = first_of (codes "state") (matches_of command_line words)
+
+-- the word behind --fail-on in these words, by the same matches
+abbrev pub fail_on_in : List Text → Option Text
+fail_on_in words = first_of (codes "fail-on") (matches_of command_line words)
 
 -- the text of a flag in these words, by the same matches
 abbrev pub flag_in : Flag → List Text → Option Text
@@ -88,27 +95,29 @@ has_flag options Threads = options.threads
 has_flag options Explain = options.explain
 has_flag options Check = options.check
 
--- just these flags are given, this stands behind --state, and this is the file; and only want of memory refuses the words
-abbrev pub Asks : (Flag → Bool) → Option Text → Option Text → Result Options Error → Type 0
-Asks given state file result =
+-- just these flags are given, this stands behind --state, and this behind --fail-on, and this is the file; and only want of memory refuses the
+-- words
+abbrev pub Asks : (Flag → Bool) → (state fail_on file : Option Text) → Result Options Error → Type 0
+Asks given state fail_on file result =
     MatchResult result
     (λ options. ((flag : Flag) → has_flag options flag ≡ given flag) × (option_map (λ w. w.now) options.state ≡ state)
-    × (option_map (λ f. f.now) options.file ≡ file))
+    × (option_map (λ w. w.now) options.fail_on ≡ fail_on) × (option_map (λ f. f.now) options.file ≡ file))
     (λ error. kind_of error ≡ OutOfMemory)
 
 -- the same without clap's words: the program's name alone asks for no flag and no file, a plain word behind it is the file, and two of
 -- them are refused; the word of a flag before or behind a file gives that flag, those of two flags both, and one twice is refused; a plain
--- word behind --state is its value
+-- word behind --state or --fail-on is its value
 pub record FollowsUsage (words : List Text) (result : Result Options Error) : Type 0 where
-  pub none : (name : Text) → words ≡ name ∷ [] → Asks (λ flag. false) None None result
-  pub one : (name word : Text) → IsPlain word → words ≡ name ∷ word ∷ [] → Asks (λ flag. false) None (Some word) result
+  pub none : (name : Text) → words ≡ name ∷ [] → Asks (λ flag. false) None None None result
+  pub one : (name word : Text) → IsPlain word → words ≡ name ∷ word ∷ [] → Asks (λ flag. false) None None (Some word) result
   pub more : (name first second : Text) (rest : List Text) → IsPlain first → IsPlain second → words ≡ name ∷ first ∷ second ∷ rest → IsErr result
-  pub flag : (name : Text) (flag : Flag) → words ≡ name ∷ flag_word flag ∷ [] → Asks (is_same_flag flag) None None result
+  pub flag : (name : Text) (flag : Flag) → words ≡ name ∷ flag_word flag ∷ [] → Asks (is_same_flag flag) None None None result
   pub flag_first : (name word : Text) (flag : Flag) → IsPlain word → words ≡ name ∷ flag_word flag ∷ word ∷ []
-      → Asks (is_same_flag flag) None (Some word) result
+      → Asks (is_same_flag flag) None None (Some word) result
   pub flag_last : (name word : Text) (flag : Flag) → IsPlain word → words ≡ name ∷ word ∷ flag_word flag ∷ []
-      → Asks (is_same_flag flag) None (Some word) result
+      → Asks (is_same_flag flag) None None (Some word) result
   pub twice : (name : Text) (flag : Flag) (rest : List Text) → words ≡ name ∷ flag_word flag ∷ flag_word flag ∷ rest → IsErr result
   pub two : (name : Text) (first second : Flag) → is_same_flag first second ≡ false → words ≡ name ∷ flag_word first ∷ flag_word second ∷ []
-      → Asks (λ flag. is_same_flag first flag || is_same_flag second flag) None None result
-  pub state : (name word : Text) → IsPlain word → words ≡ name ∷ codes "--state" ∷ word ∷ [] → Asks (λ flag. false) (Some word) None result
+      → Asks (λ flag. is_same_flag first flag || is_same_flag second flag) None None None result
+  pub state : (name word : Text) → IsPlain word → words ≡ name ∷ codes "--state" ∷ word ∷ [] → Asks (λ flag. false) (Some word) None None result
+  pub fail_on : (name word : Text) → IsPlain word → words ≡ name ∷ codes "--fail-on" ∷ word ∷ [] → Asks (λ flag. false) None (Some word) None result

@@ -2,7 +2,7 @@
 use Rattle.std.specs.Prelude.{◌≡◌, Bool, true, false, Option, Some, None, Result, Ok, Err, List, ℕ}
 use Rattle.script_core.specs.StateText.{AsksForStates, AsksForNoState}
 use Rattle.script_core.specs.declared.states.States.{States}
-use Rattle.script_core.specs.declared.states.States.TheVariants.{Nowhere}
+use Rattle.script_core.specs.declared.states.States.TheVariants.{Nowhere, Everywhere}
 use Rattle.replay_core.specs.declared.job.Detail.{Detail}
 use Rattle.replay_core.specs.declared.job.Detail.TheVariants.{Plain, Explained}
 use Rattle.replay_core.specs.declared.job.Job.{Job}
@@ -31,3 +31,14 @@ IsJobOf false false true None job = job ≡ Ok Check
 IsJobOf false false true (Some word) job = job ≡ Err misuses.State
 IsJobOf true explain true state job = job ≡ Err misuses.Threads
 IsJobOf false true true state job = job ≡ Err misuses.Explain
+
+-- what --timeline asks for beside --json, --threads, --explain and --check, each given or not, and the words behind --state and --fail-on, if
+-- they are given: a run told with the state behind each event, and nothing beside another flag than --threads
+abbrev pub IsDrawnJobOf : Bool → Bool → Bool → Bool → Option (List ℕ) → Option (List ℕ) → Result Job Misuse → Type 0
+IsDrawnJobOf false false false false None None job = job ≡ Ok (Replay (Explained Everywhere))
+IsDrawnJobOf false true false false None None job = job ≡ Ok (ReplayInThreads (Explained Everywhere))
+IsDrawnJobOf false threads false false None (Some list) job = job ≡ Err misuses.Timeline
+IsDrawnJobOf false threads false false (Some word) list job = job ≡ Err misuses.Timeline
+IsDrawnJobOf false threads false true state list job = job ≡ Err misuses.Timeline
+IsDrawnJobOf false threads true check state list job = job ≡ Err misuses.Timeline
+IsDrawnJobOf true threads explain check state list job = job ≡ Err misuses.Timeline

@@ -2,6 +2,7 @@ pub mod CommandLine
 pub mod GivenWords
 pub mod ExploreLine
 pub mod Explorings
+pub mod JudgedRuns
 pub mod Faults
 pub mod Jobs
 pub mod HistoryLine

@@ -1,7 +1,7 @@
 //! The command line of the program, read by `clap`.
 ghost use Rattle.std.specs.Prelude.{◌≡◌, IfOk, IfErr, map, option_map, string_bytes, false, true};
 ghost use Rattle.clap.specs.Words.{FailsBy, app_of, fault_of, kind_of, rule_of, takes};
-ghost use Rattle.lockreplay.specs.CommandLine.{Flag, FollowsUsage, IsGiven, command_line, file_of, state_in, option_rule, flag_in, flag_rule, has_flag};
+ghost use Rattle.lockreplay.specs.CommandLine.{Flag, FollowsUsage, IsGiven, command_line, fail_on_in, file_of, state_in, option_rule, flag_in, flag_rule, has_flag};
 ghost use Rattle.lockreplay.specs.CommandLine as spec;
 
 use crate::options::Options;
@@ -16,6 +16,9 @@ pub fn options<'a>(alloc: Global, words: &'a [String]) -> Result<Options<'a>, cl
 
     // So is the word behind `--state`.
     ensures state { IfOk result (λ options. option_map (λ word. word.now) options.state ≡ state_in (map string_bytes words.entry.now)) }
+
+    // And the one behind `--fail-on`.
+    ensures fail_on { IfOk result (λ options. option_map (λ word. word.now) options.fail_on ≡ fail_on_in (map string_bytes words.entry.now)) }
 
     // So are the flags.
     ensures flags { IfOk result (λ options. (flag : Flag) → IsGiven (flag_in flag (map string_bytes words.entry.now)) (has_flag options flag)) }
@@ -34,6 +37,7 @@ pub fn options<'a>(alloc: Global, words: &'a [String]) -> Result<Options<'a>, cl
         explain: matches.get_flag("explain"),
         check: matches.get_flag("check"),
         state: matches.get_str("state"),
+        fail_on: matches.get_str("fail-on"),
         file: matches.get_str("file"),
     })
 }
@@ -50,18 +54,24 @@ fn command<'a>(alloc: Global) -> Result<Command<'a>, AllocError>
     let explain = flag(
         alloc,
         "explain",
-        "Says what is in the way and which locks go, in lines of #",
+        "Says what is in the way, and which locks go, behind #",
     );
     let state = option(
         alloc,
         "state",
         "N",
-        "Explains, and tells the state behind entry N, all or changes",
+        "Explains; tells the state behind entry N, all or changes",
     );
     let check = flag(
         alloc,
         "check",
-        "Checks an output in place of a script; with no other flag",
+        "Checks an output, not a script; with no other flag",
+    );
+    let fail_on = option(
+        alloc,
+        "fail-on",
+        "LIST",
+        "Has status 3 where the run shows one of these findings",
     );
     Command::new(alloc, "lockreplay")
         .version(VERSION)
@@ -71,6 +81,7 @@ fn command<'a>(alloc: Global) -> Result<Command<'a>, AllocError>
         .arg(explain)?
         .arg(state)?
         .arg(check)?
+        .arg(fail_on)?
         .arg(file_argument(alloc))
 }
 
@@ -113,12 +124,11 @@ pub const VERSION: &str = "0.2.0";
 pub const ABOUT: &str =
     "Replays a script of advisory lock requests. No file of the machine is locked.";
 
-/// For whom the program is, and how a script is written. With what clap puts before it, its first 9 lines fill a screen of 24.
+/// For whom the program is, and how a script is written. With what clap puts before it, its first 8 lines fill a screen of 24.
 pub const GUIDE: &str =
     "Exit status: 0 replayed or legal, 3 illegal or found, 2 input or command line
   refused or --help, 4 --limit, 1 FILE, read, write, memory or thread failed
 
-Example:
   $ printf '1 open 0 rw\\n1 setlk 0 w set 0 100\\n' | lockreplay
   1#1 open 0 rw | 1#1 fd 0
   1#2 setlk 0 w set 0 100 | 1#2 ok
@@ -135,6 +145,8 @@ I test my locking protocol:
     some order shows, with its shortest run, and what none does: deadlock,
     stuck, dropped, lost, busy, interrupted, killed, unborn. Status 3 where
     another than busy, interrupted and killed is possible, or one of LIST.
+  lockreplay [--explain] --fail-on LIST [FILE]
+    Takes them in the script's order alone. LIST may name badfd, too: EBADF.
 
 I write a file server, or test one:
   lockreplay --check [FILE]             a log in its order, as a run is printed
@@ -156,5 +168,6 @@ Script: a line for each request, the number of a process, 1 to 16, and one of
   wide, with processes up to 64 and descriptors up to 255. Blank lines, and
   those that begin with #, are skipped.
 
-With --json, beside any of these, each line of the output is a JSON object.
+With --json, beside any of these, each line of the output is a JSON object;
+--timeline draws the run of a script, a column for each process.
 man lockreplay has each request, the output, and the faults by number.";

@@ -1,11 +1,14 @@
 //! What the program reads from and writes to.
 use crate::faults::Fault;
 use either::Either;
-use json_lines::JsonWriter;
+use json_lines::Objects;
+use line_writer::LineWriter;
+use range_core::Memory;
 use replay_core::{FromReader, ToWriter};
 use std::fs;
 use std::fs::Files;
 use std::io::{Printer, writer};
+use timeline::Timeline;
 
 /// The file, or standard input where there is none.
 pub fn input<R: Files + Input>(
@@ -20,13 +23,14 @@ pub fn input<R: Files + Input>(
 }
 
 /// Standard output: its lines as they are, or each as an object.
-pub type Output<'a, R> = ToWriter<Either<Printer<'a, R>, JsonWriter<Printer<'a, R>>>>;
+pub type Output<'a, R> = ToWriter<Either<Printer<'a, R>, LineWriter<Objects<Printer<'a, R>>>>>;
 
 /// Standard output, with its lines as objects where that is asked for.
 pub fn output<R: AllocGlobal + Print>(rt: &R, json: bool) -> Output<'_, R> {
     let printer = writer(rt);
     ToWriter::new(if json {
-        Either::Right(JsonWriter::new(rt.alloc(), printer))
+        let objects = Objects::new(rt.alloc(), printer);
+        Either::Right(LineWriter::new(rt.alloc(), objects))
     } else {
         Either::Left(printer)
     })
@@ -35,10 +39,34 @@ pub fn output<R: AllocGlobal + Print>(rt: &R, json: bool) -> Output<'_, R> {
 /// The fault that is told where a job ends with this one: want of memory, where the object of a line found none.
 pub fn fault_of<R: Print>(output: Output<'_, R>, fault: impl Into<Fault> + Drop) -> Fault {
     match output.into_inner() {
-        Either::Right(objects) => match objects.refused() {
-            Some(refused) => Fault::from(refused),
-            None => fault.into(),
-        },
+        Either::Right(objects) => unless_refused(objects.refused(), fault),
         Either::Left(_) => fault.into(),
+    }
+}
+
+/// The lines of a run, for its picture.
+pub type Picture = ToWriter<LineWriter<Timeline>>;
+
+/// No line of a run was taken yet.
+pub fn picture(rt: &impl AllocGlobal) -> Picture {
+    ToWriter::new(LineWriter::new(rt.alloc(), Timeline::new(rt.alloc())))
+}
+
+/// Draws the run on standard output.
+pub fn draw(rt: &impl Print, picture: Picture) -> Result<(), Fault> {
+    let timeline = picture.into_inner().into_inner();
+    timeline.draw(&mut writer(rt)).map_err(Fault::of_line)
+}
+
+/// The fault that is told where a run ends with this one: want of memory, where a row found none.
+pub fn fault_of_picture(picture: Picture, fault: impl Into<Fault> + Drop) -> Fault {
+    unless_refused(picture.into_inner().refused(), fault)
+}
+
+/// Want of memory, or else the fault.
+fn unless_refused(refused: Option<Memory>, fault: impl Into<Fault> + Drop) -> Fault {
+    match refused {
+        Some(refused) => Fault::from(refused),
+        None => fault.into(),
     }
 }

@@ -7,6 +7,7 @@ ghost use Rattle.lockreplay.specs.Faults.{exit_status};
 use crate::options::Misuse;
 use clap::error::ErrorKind;
 use history_run::HistoryFault;
+use line_writer::Untaken;
 use range_core::Memory;
 use replay_core::RunFault;
 use std::io;
@@ -64,6 +65,14 @@ impl Fault {
         match error.kind() {
             InputErrorKind::OutOfMemory => Fault::OutOfMemory,
             _ => Fault::Run(RunFault::Read),
+        }
+    }
+
+    /// The fault where a line of the output isn't taken for this reason.
+    pub fn of_line(untaken: Untaken) -> Fault {
+        match untaken {
+            Untaken::Memory(refused) => Fault::from(refused),
+            Untaken::Write(_) => Fault::Run(RunFault::Write),
         }
     }
 

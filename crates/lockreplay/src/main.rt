@@ -14,17 +14,18 @@ mod history_line;
 mod options;
 mod progress;
 
-use devices::{fault_of, input, output};
+use devices::{draw, fault_of, fault_of_picture, input, output, picture};
 use explore_line::explore_options;
 use explore_run::{Exploring, Watch, explore_script};
 use faults::Fault;
 use given_words::{asks_for, take_flag};
 use history_check::{HistoryOutcome, Judging};
 use history_run::judge_history;
-use options::path_of;
+use options::{judged_detail, path_of, run_failures_of};
 use progress::Progress;
 use range_core::Memory;
-use replay_core::{Job, RunFault, perform};
+use replay_core::{Detail, Job, RunFault, perform};
+use shown_run::{RunFinding, replay_judged};
 use std::env;
 use std::env::Env;
 use std::fs::Files;
@@ -73,9 +74,31 @@ fn run(
         let judging = options.judging().map_err(Fault::Misuse)?;
         judge(rt, judging, path_of(options.file), json)
     } else {
-        let options = command_line::options(rt.alloc(), &words).map_err(Fault::of_command_line)?;
-        let job = options.job().map_err(Fault::Misuse)?;
-        replay(rt, job, path_of(options.file), json)
+        run_once(rt, words, json)
+    }
+}
+
+/// Does what a command line asks for that takes a script in its one order, or checks a journal.
+fn run_once(
+    rt: &(impl AllocGlobal + Clock + Files + Input + Print + Sync + Threads + Wait),
+    mut words: Vec<String>,
+    json: bool,
+) -> Result<u8, Fault> {
+    let timeline = take_flag(&mut words, "--timeline");
+    let options = command_line::options(rt.alloc(), &words).map_err(Fault::of_command_line)?;
+    let path = path_of(options.file);
+    if timeline {
+        let job = options.drawn_job(json).map_err(Fault::Misuse)?;
+        return replay_drawn(rt, job, path);
+    }
+    let job = options.job().map_err(Fault::Misuse)?;
+    match options.fail_on {
+        Some(list) => {
+            let detail = judged_detail(job).map_err(Fault::Misuse)?;
+            let fail_on = run_failures_of(rt.alloc(), list)?;
+            replay_failing(rt, detail, &fail_on, path, json)
+        }
+        None => replay(rt, job, path, json),
     }
 }
 
@@ -89,6 +112,40 @@ fn replay(
     let mut source = input(rt, path)?;
     let mut sink = output(rt, json);
     match perform(rt, job, &mut source, &mut sink) {
+        Ok(outcome) => Ok(outcome.status()),
+        Err(fault) => Err(fault_of(sink, fault)),
+    }
+}
+
+/// Replays the file, or standard input where there is none, and draws the run on standard output.
+fn replay_drawn(
+    rt: &(impl AllocGlobal + Clock + Files + Input + Print + Sync + Threads + Wait),
+    job: Job,
+    path: Option<&str>,
+) -> Result<u8, Fault> {
+    let mut source = input(rt, path)?;
+    let mut lines = picture(rt);
+    match perform(rt, job, &mut source, &mut lines) {
+        Ok(outcome) => {
+            draw(rt, lines)?;
+            Ok(outcome.status())
+        }
+        Err(fault) => Err(fault_of_picture(lines, fault)),
+    }
+}
+
+/// Replays the script in the file, or on standard input where there is none, and writes to standard output; what the run shows decides the
+/// status.
+fn replay_failing(
+    rt: &(impl AllocGlobal + Files + Input + Print),
+    detail: Detail,
+    fail_on: &[RunFinding],
+    path: Option<&str>,
+    json: bool,
+) -> Result<u8, Fault> {
+    let mut source = input(rt, path)?;
+    let mut sink = output(rt, json);
+    match replay_judged(rt.alloc(), detail, fail_on, &mut source, &mut sink) {
         Ok(outcome) => Ok(outcome.status()),
         Err(fault) => Err(fault_of(sink, fault)),
     }

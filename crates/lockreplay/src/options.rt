@@ -1,6 +1,7 @@
 //! What a command line asks for.
 ghost use Rattle.std.specs.Prelude.{◌≡◌, ◌≢◌, ◌≤◌, Some, None, IfOk, MatchResult, codes, option_map};
-ghost use Rattle.lockreplay.specs.Jobs.{IsJobOf, IsDetailOf};
+ghost use Rattle.lockreplay.specs.Jobs.{IsDrawnJobOf, IsJobOf, IsDetailOf};
+ghost use Rattle.lockreplay.specs.JudgedRuns.{AreRunFailures, IsJudgedDetail};
 ghost use Rattle.lockreplay.specs.Judgings.{AreStatesAsked, AreStatesOf, IsJudgingOf, IsLimitAsked, IsLimitOf};
 ghost use Rattle.lockreplay.specs.Explorings.{AreFailures, IsExploringFault, IsExploringOf, IsPrintedAsked, IsSituationLimit};
 
@@ -11,6 +12,7 @@ use history_check::{Judging, LockStates};
 use range_core::Memory;
 use replay_core::{Detail, Job};
 use script_core::{States, natural_of};
+use shown_run::{RunFinding, run_findings_of};
 use std::alloc::Global;
 use thiserror::Error;
 
@@ -26,6 +28,15 @@ pub enum Misuse {
     /// `--state` beside `--check`, as `--explain`.
     #[error("error: the argument '--state <N>' cannot be used with '--check'\n\nFor more information, try '--help'.\n")]
     State,
+    /// `--timeline` beside another flag than `--threads`.
+    #[error("error: the argument '--timeline' can only be used with '--threads'\n\nFor more information, try '--help'.\n")]
+    Timeline,
+    /// `--fail-on` beside `--threads`: which run is printed is open there.
+    #[error("error: the argument '--fail-on <LIST>' cannot be used with '--threads'\n\nFor more information, try '--help'.\n")]
+    FailOnThreads,
+    /// `--fail-on` beside `--check`: a journal is legal or not.
+    #[error("error: the argument '--fail-on <LIST>' cannot be used with '--check'\n\nFor more information, try '--help'.\n")]
+    FailOnCheck,
     /// `--state` with what is neither `all`, `changes` nor the number of an entry.
     #[error("error: invalid value for '--state <N>': the number of an entry, from 1 on, or all, or changes\n\nFor more information, try '--help'.\n")]
     Entry,
@@ -57,6 +68,8 @@ pub struct Options<'a> {
     pub check: bool,
     /// Behind which entries the state is told, as it stands on the command line.
     pub state: Option<&'a str>,
+    /// What the run isn't to show, as it stands there.
+    pub fail_on: Option<&'a str>,
     /// FILE, as it stands on the command line.
     pub file: Option<&'a str>,
 }
@@ -77,6 +90,21 @@ impl<'a> Options<'a> {
         }
     }
 
+    /// The run that a picture is drawn of, told with the state behind each event. `--timeline` stands beside `--threads` alone, and so not
+    /// beside `--json`.
+    pub fn drawn_job(self, json: bool) -> Result<Job, Misuse>
+        ensures { IsDrawnJobOf json self.entry.threads self.entry.explain self.entry.check (option_map (λ word. word.now) self.entry.state)
+            (option_map (λ word. word.now) self.entry.fail_on) result }
+    {
+        let detail = Detail::Explained(States::Everywhere);
+        let others = json || self.explain || self.check;
+        match (others, self.threads, self.state, self.fail_on) {
+            (false, false, None, None) => Ok(Job::Replay(detail)),
+            (false, true, None, None) => Ok(Job::ReplayInThreads(detail)),
+            _ => Err(Misuse::Timeline),
+        }
+    }
+
     /// How much is told of a run. Who asks for states has the run explained too.
     fn detail(self) -> Result<Detail, Misuse>
         ensures { IsDetailOf self.entry.explain (option_map (λ word. word.now) self.entry.state) result }
@@ -89,6 +117,27 @@ impl<'a> Options<'a> {
             None if self.explain => Ok(Detail::Explained(States::Nowhere)),
             None => Ok(Detail::Plain),
         }
+    }
+}
+
+/// The detail in which a run is told whose findings decide the status: it is no job in threads, and no check.
+pub fn judged_detail(job: Job) -> Result<Detail, Misuse>
+    ensures { IsJudgedDetail job result }
+{
+    match job {
+        Job::Replay(detail) => Ok(detail),
+        Job::ReplayInThreads(_) => Err(Misuse::FailOnThreads),
+        Job::Check => Err(Misuse::FailOnCheck),
+    }
+}
+
+/// What a run isn't to show.
+pub fn run_failures_of(alloc: Global, list: &str) -> Result<Vec<RunFinding>, Fault>
+    ensures { AreRunFailures list.now result }
+{
+    match run_findings_of(alloc, list)? {
+        Some(findings) => Ok(findings),
+        None => Err(Fault::Misuse(Misuse::FailOn)),
     }
 }
 

@@ -10,6 +10,7 @@ returns c =
     let explain_is : rule_of c.flag-explain.result ≡ flag_rule (codes "explain") = search rules in
     let check_is : rule_of c.flag-check.result ≡ flag_rule (codes "check") = search rules in
     let state_is : rule_of c.option-state.result ≡ option_rule (codes "state") = search rules in
+    let fail_on_is : rule_of c.option-fail_on.result ≡ option_rule (codes "fail-on") = search rules in
     let file_is : rule_of c.file_argument.result ≡ file_argument = search rules in
     let start_is : app_of c.after_help.result ≡ versioned_app = search rules in
     let first = with_rule versioned_app (flag_rule (codes "threads")) in
@@ -20,4 +21,6 @@ returns c =
     let third_is : app_of c.in_ok-arg-3.field-0 ≡ third = c.in_ok-arg-3.ensures.shape (search rules) ∙ ap₂ with_rule second_is state_is in
     let fourth = with_rule third (flag_rule (codes "check")) in
     let fourth_is : app_of c.in_ok-arg-4.field-0 ≡ fourth = c.in_ok-arg-4.ensures.shape (search rules) ∙ ap₂ with_rule third_is check_is in
-    IfOk-weaker c.arg-5.result _ _ (λ made added. added.shape (search rules) ∙ ap₂ with_rule fourth_is file_is) c.arg-5.ensures
+    let fifth = with_rule fourth (option_rule (codes "fail-on")) in
+    let fifth_is : app_of c.in_ok-arg-5.field-0 ≡ fifth = c.in_ok-arg-5.ensures.shape (search rules) ∙ ap₂ with_rule fourth_is fail_on_is in
+    IfOk-weaker c.arg-6.result _ _ (λ made added. added.shape (search rules) ∙ ap₂ with_rule fifth_is file_is) c.arg-6.ensures

@@ -9,7 +9,7 @@ pub returns-clause-file : goal.returns-clause-file
 returns-clause-file c =
     let app = app_of c.in_ok-command.field-0 in
     let is : app ≡ command_line = search rules in
-    c.get_str-2.ensures ∙ value_found command_line refl (codes "file") app (map string_bytes c.args.words.now) c.in_ok-matches.matches is c.in_ok-matches.ensures.matches
+    c.get_str-3.ensures ∙ value_found command_line refl (codes "file") app (map string_bytes c.args.words.now) c.in_ok-matches.matches is c.in_ok-matches.ensures.matches
 
 pub returns-clause-state : goal.returns-clause-state
 returns-clause-state c =
@@ -17,12 +17,19 @@ returns-clause-state c =
     let is : app ≡ command_line = search rules in
     c.get_str.ensures ∙ value_found command_line refl (codes "state") app (map string_bytes c.args.words.now) c.in_ok-matches.matches is c.in_ok-matches.ensures.matches
 
+pub returns-clause-fail_on : goal.returns-clause-fail_on
+returns-clause-fail_on c =
+    let app = app_of c.in_ok-command.field-0 in
+    let is : app ≡ command_line = search rules in
+    c.get_str-2.ensures ∙ value_found command_line refl (codes "fail-on") app (map string_bytes c.args.words.now) c.in_ok-matches.matches is
+    c.in_ok-matches.ensures.matches
+
 pub returns-clause-flags : goal.returns-clause-flags
 returns-clause-flags c =
     let app = app_of c.in_ok-command.field-0 in
     let is : app ≡ command_line = search rules in
     let words = map string_bytes c.args.words.now in
-    let options : Options = record { threads = c.get_flag.result; explain = c.get_flag-2.result; check = c.get_flag-3.result; state = c.get_str.result; file = c.get_str-2.result } in
+    let options : Options = record { threads = c.get_flag.result; explain = c.get_flag-2.result; check = c.get_flag-3.result; state = c.get_str.result; fail_on = c.get_str-2.result; file = c.get_str-3.result } in
     of_each (λ flag. IsGiven (flag_in flag words) (has_flag options flag))
     (subst (λ text. IsGiven text c.get_flag.result) (flag_found command_line refl (codes "threads") app words c.in_ok-matches.matches is c.in_ok-matches.ensures.matches)
     (flag_read (one_text (found_of c.in_ok-matches.matches) (codes "threads")) c.get_flag.result c.get_flag.ensures.none c.get_flag.ensures.value c.get_flag.ensures.other))
@@ -51,8 +58,8 @@ returns-in_err-matches-clause-taken c =
     rw refused (λ taken. c.in_err-matches.ensures.passes (ap (λ (a : App). takes a (map string_bytes c.args.words.now)) is ∙ taken))
 
 pub returns-clause-usage : goal.returns-clause-usage
-returns-clause-usage c = follows_usage (map string_bytes c.args.words.now) (Ok (record { threads = c.get_flag.result; explain = c.get_flag-2.result; check = c.get_flag-3.result; state = c.get_str.result; file = c.get_str-2.result }))
-    (returns-clause-file c, returns-clause-state c, returns-clause-flags c) (returns-clause-kind c)
+returns-clause-usage c = follows_usage (map string_bytes c.args.words.now) (Ok (record { threads = c.get_flag.result; explain = c.get_flag-2.result; check = c.get_flag-3.result; state = c.get_str.result; fail_on = c.get_str-2.result; file = c.get_str-3.result }))
+    (returns-clause-file c, returns-clause-state c, returns-clause-fail_on c, returns-clause-flags c) (returns-clause-kind c)
 
 pub returns-in_err-matches-clause-usage : goal.returns-in_err-matches-clause-usage
 returns-in_err-matches-clause-usage c =
