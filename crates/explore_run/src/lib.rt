@@ -12,4 +12,4 @@ pub use exploring::{ExploreOutcome, Exploring, Printed};
 pub use laws::complete_runs_are_interleavings;
 pub use runs::explore_script;
 pub use script_search::{Nobody, Watch};
-pub use words::{finding_of, findings_of, word_of};
+pub use words::{Named, finding_of, findings_of, word_of};

@@ -40,21 +40,39 @@ pub fn finding_of(word: &str) -> Option<Finding>
     }
 }
 
-/// The findings that a list names by their words, with commas between them; `None` where one of these is no finding's.
-pub fn findings_of(alloc: Global, list: &str) -> Result<Option<Vec<Finding>>, Memory>
-    ensures { IfOk result (λ named. MatchOption named ((findings : List Finding) → pieces_of list.now ≢ map finding_word findings)
-        (λ findings. pieces_of list.now ≡ map finding_word findings.items)) }
+/// What a list names by a word (this project's choice).
+pub trait Named {
+    /// Its word.
+    ghost name: { Self → List ℕ };
+
+    /// What has this word.
+    fn of_word(word: &str) -> Option<Self>
+        ensures { MatchOption result ((named : Self) → word.now ≢ name named) (λ named. word.now ≡ name named) };
+}
+
+impl Named for Finding {
+    ghost name = { finding_word };
+
+    fn of_word(word: &str) -> Option<Finding> {
+        finding_of(word)
+    }
+}
+
+/// What a list names by these words, with commas between them; `None` where one of them has no meaning.
+pub fn findings_of<F: Named>(alloc: Global, list: &str) -> Result<Option<Vec<F>>, Memory>
+    ensures { IfOk result (λ named. MatchOption named ((findings : List F) → pieces_of list.now ≢ map F.name findings)
+        (λ findings. pieces_of list.now ≡ map F.name findings.items)) }
 {
     let mut findings = Vec::new(alloc);
     let mut rest = list;
     while let Some((word, more)) = rest.split_once(',') {
-        match finding_of(word) {
+        match F::of_word(word) {
             Some(finding) => findings.push(finding)?,
             None => return Ok(None),
         }
         rest = more;
     }
-    match finding_of(rest) {
+    match F::of_word(rest) {
         Some(finding) => findings.push(finding)?,
         None => return Ok(None),
     }

@@ -12,7 +12,7 @@ use history_check::{Judging, LockStates};
 use range_core::Memory;
 use replay_core::{Detail, Job};
 use script_core::{States, natural_of};
-use shown_run::{RunFinding, run_findings_of};
+use shown_run::RunFinding;
 use std::alloc::Global;
 use thiserror::Error;
 
@@ -135,7 +135,7 @@ pub fn judged_detail(job: Job) -> Result<Detail, Misuse>
 pub fn run_failures_of(alloc: Global, list: &str) -> Result<Vec<RunFinding>, Fault>
     ensures { AreRunFailures list.now result }
 {
-    match run_findings_of(alloc, list)? {
+    match findings_of(alloc, list)? {
         Some(findings) => Ok(findings),
         None => Err(Fault::Misuse(Misuse::FailOn)),
     }

@@ -4,5 +4,5 @@
 mod finding;
 mod runs;
 
-pub use finding::{RunFinding, run_findings_of};
+pub use finding::RunFinding;
 pub use runs::{RunOutcome, replay_judged};

@@ -1,6 +1,7 @@
 //! Runs of small scripts, of each of which it was derived by hand what it shows.
+use explore_run::findings_of;
 use replay_core::{Detail, FromReader, ToWriter};
-use shown_run::{RunOutcome, replay_judged, run_findings_of};
+use shown_run::{RunFinding, RunOutcome, replay_judged};
 use std::alloc::Global;
 use std::process::Abort;
 use std::test::Fail;
@@ -50,7 +51,7 @@ const CLOSED: &[u8] = b"1 open 0 rw
 
 /// What comes of the run of the script where what this list names is to fail; `None` where it names nothing.
 fn outcome_of(alloc: Global, script: &[u8], list: &str) -> Result<Option<RunOutcome>, Fail> {
-    let Some(fail_on) = run_findings_of(alloc, list)? else {
+    let Some(fail_on) = findings_of::<RunFinding>(alloc, list)? else {
         return Ok(None);
     };
     let mut source = FromReader::new(script);

@@ -2,7 +2,7 @@ use Rattle.std.proofs.Common.{rules, ◌≢◌}
 use Rattle.shown_run.specs.declared.finding.RunFinding.{RunFinding}
 use Rattle.shown_run.specs.declared.finding.RunFinding.TheVariants.{Found, BadDescriptor}
 use Rattle.shown_run.specs.ShownRuns.{run_finding_word}
-use Rattle.shown_run.proofs.finding.run_finding_of.Goals as goal
+use Rattle.shown_run.proofs.finding.RunFindingNamed.of_word.Goals as goal
 
 pub returns-in-None : goal.returns-in-None
 returns-in-None c = at
