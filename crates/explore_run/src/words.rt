@@ -59,7 +59,7 @@ impl Named for Finding {
 }
 
 /// What a list names by these words, with commas between them; `None` where one of them has no meaning.
-pub fn findings_of<F: Named>(alloc: Global, list: &str) -> Result<Option<Vec<F>>, Memory>
+pub fn findings_of<F: Named + Drop>(alloc: Global, list: &str) -> Result<Option<Vec<F>>, Memory>
     ensures { IfOk result (λ named. MatchOption named ((findings : List F) → pieces_of list.now ≢ map F.name findings)
         (λ findings. pieces_of list.now ≡ map F.name findings.items)) }
 {

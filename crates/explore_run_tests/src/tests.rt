@@ -7,9 +7,11 @@ use replay_core::{FromReader, Outcome, ToWriter, check};
 use std::alloc::{AllocError, Global};
 use std::process::Abort;
 use std::test::Fail;
+use std::thread::Threads;
 
 /// What comes of a search of the script, and the text that is printed.
 fn explore(
+    rt: &(impl Threads + Sync),
     alloc: Global,
     script: &[u8],
     limit: usize,
@@ -25,7 +27,7 @@ fn explore(
     };
     let mut source = FromReader::new(script);
     let mut sink = ToWriter::new(Vec::new(alloc));
-    let outcome = explore_script(alloc, &exploring, &mut source, &mut sink, &Nobody)?;
+    let outcome = explore_script(rt, alloc, &exploring, &mut source, &mut sink, &Nobody)?;
     Ok((outcome, sink.into_inner()))
 }
 
@@ -87,7 +89,7 @@ proc 2 sent 2 taken 1 answered 0 waiting
 #[test]
 fn crossed(rt: HostRuntime) -> Result<(), Fail> {
     let fail_on = [Finding::Dropped, Finding::Deadlock];
-    let (outcome, text) = explore(rt.alloc(), CROSSED, 14, Printed::Table, &fail_on)?;
+    let (outcome, text) = explore(&rt, rt.alloc(), CROSSED, 14, Printed::Table, &fail_on)?;
     assert_eq!(rt; text.as_slice(), CROSSED_TOLD);
     assert_eq!(rt; outcome, ExploreOutcome::Found);
     assert_eq!(rt; outcome.status(), 3);
@@ -98,7 +100,7 @@ fn crossed(rt: HostRuntime) -> Result<(), Fail> {
 #[test]
 fn nothing_fails(rt: HostRuntime) -> Result<(), Fail> {
     let fail_on = [Finding::Lost, Finding::Busy];
-    let (outcome, text) = explore(rt.alloc(), CROSSED, 1000, Printed::Table, &fail_on)?;
+    let (outcome, text) = explore(&rt, rt.alloc(), CROSSED, 1000, Printed::Table, &fail_on)?;
     assert_eq!(rt; text.as_slice(), CROSSED_TOLD);
     assert_eq!(rt; outcome.status(), 0);
     Ok(())
@@ -121,7 +123,7 @@ situations 5
 #[test]
 fn limited(rt: HostRuntime) -> Result<(), Fail> {
     let fail_on = [Finding::Deadlock];
-    let (outcome, text) = explore(rt.alloc(), CROSSED, 5, Printed::Table, &fail_on)?;
+    let (outcome, text) = explore(&rt, rt.alloc(), CROSSED, 5, Printed::Table, &fail_on)?;
     assert!(rt; text.as_slice().starts_with(LIMITED_TOLD));
     assert_eq!(rt; outcome.status(), 4);
     Ok(())
@@ -131,7 +133,7 @@ fn limited(rt: HostRuntime) -> Result<(), Fail> {
 #[test]
 fn runs_alone(rt: HostRuntime) -> Result<(), Fail> {
     for (finding, lines) in [(Finding::Deadlock, 10), (Finding::Stuck, 13)] {
-        let (_, text) = explore(rt.alloc(), CROSSED, 1000, Printed::RunOf(finding), &[])?;
+        let (_, text) = explore(&rt, rt.alloc(), CROSSED, 1000, Printed::RunOf(finding), &[])?;
         assert!(rt;
             text.as_slice()
                 .starts_with(b"policy held\nlimits small\n1#1 open 0 rw ")
@@ -140,6 +142,7 @@ fn runs_alone(rt: HostRuntime) -> Result<(), Fail> {
         assert!(rt; is_legal(rt.alloc(), &text)?);
     }
     let (_, text) = explore(
+        &rt,
         rt.alloc(),
         CROSSED,
         1000,
@@ -208,6 +211,7 @@ fn long(rt: HostRuntime) -> Result<(), Fail> {
     push_long_run(&mut due)?;
     let fail_on = [Finding::Unborn];
     let (outcome, text) = explore(
+        &rt,
         rt.alloc(),
         script.as_bytes(),
         10_000,
@@ -226,7 +230,7 @@ fn long_run_alone(rt: HostRuntime) -> Result<(), Fail> {
     let mut due = String::from_str(rt.alloc(), "policy held\nlimits small\n")?;
     push_long_run(&mut due)?;
     let printed = Printed::RunOf(Finding::Unborn);
-    let (_, text) = explore(rt.alloc(), script.as_bytes(), 10_000, printed, &[])?;
+    let (_, text) = explore(&rt, rt.alloc(), script.as_bytes(), 10_000, printed, &[])?;
     assert!(rt; text.as_slice() == due.as_bytes());
     assert!(rt; is_legal(rt.alloc(), &text)?);
     Ok(())

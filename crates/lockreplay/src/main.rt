@@ -153,7 +153,7 @@ fn replay_failing(
 
 /// Searches every order of the script in the file, or on standard input where there is none, and writes to standard output.
 fn explore(
-    rt: &(impl AllocGlobal + Files + Input + Print),
+    rt: &(impl AllocGlobal + Files + Input + Print + Sync + Threads),
     progress: &impl Watch,
     exploring: &Exploring,
     path: Option<&str>,
@@ -163,7 +163,7 @@ fn explore(
 {
     let mut source = input(rt, path)?;
     let mut sink = output(rt, json);
-    match explore_script(rt.alloc(), exploring, &mut source, &mut sink, progress) {
+    match explore_script(rt, rt.alloc(), exploring, &mut source, &mut sink, progress) {
         Ok(outcome) => Ok(outcome.status()),
         Err(fault) => Err(fault_of(sink, fault)),
     }

@@ -4,9 +4,6 @@ use std::cell::Cell;
 use std::io::{IsTerminal, Stderr};
 use std::time::{Clock, Duration, Instant};
 
-/// How often the clock is read: once for so many situations (this project's choice).
-const SITUATIONS: u64 = 1024;
-
 /// How long a line stands before the next one takes its place, in seconds (this project's choice).
 const SECONDS: u64 = 1;
 
@@ -17,7 +14,6 @@ pub struct Progress<'a, C: Clock> {
     stderr: Stderr,
     /// When the search began, where progress is told.
     began: Option<Instant>,
-    situations: Cell<u64>,
     /// How long the search took when the last line was written.
     told: Cell<Option<Duration>>,
 }
@@ -29,7 +25,6 @@ impl<C: Clock> Drop for Progress<'_, C> {
             clock: _clock,
             stderr: _stderr,
             began: _began,
-            situations: _situations,
             told: _told,
         } = self;
     }
@@ -47,13 +42,12 @@ impl<'a, C: Clock> Progress<'a, C> {
             clock,
             stderr,
             began,
-            situations: Cell::new(0),
             told: Cell::new(None),
         }
     }
 
     /// Writes a line, unless one was written less than a second ago.
-    fn tell(&self, began: Instant, situations: u64, events: usize) {
+    fn tell(&self, began: Instant, situations: usize, events: usize) {
         let Ok(elapsed) = began.elapsed(self.clock) else {
             return;
         };
@@ -62,7 +56,7 @@ impl<'a, C: Clock> Progress<'a, C> {
             return;
         }
         self.told.set(Some(elapsed));
-        let rate = situations / elapsed.as_secs().max(1);
+        let rate = situations as u64 / elapsed.as_secs().max(1);
         let _ = eprint!(self.stderr;
             "{situations} situations, {rate} per second, {events} events\x1b[K\r"
         );
@@ -70,13 +64,8 @@ impl<'a, C: Clock> Progress<'a, C> {
 }
 
 impl<C: Clock> Watch for Progress<'_, C> {
-    fn looked(&self, events: usize) {
-        let Some(began) = self.began else {
-            return;
-        };
-        let situations = self.situations.get().saturating_add(1);
-        self.situations.set(situations);
-        if situations % SITUATIONS == 0 {
+    fn looked(&self, situations: usize, events: usize) {
+        if let Some(began) = self.began {
             self.tell(began, situations, events);
         }
     }

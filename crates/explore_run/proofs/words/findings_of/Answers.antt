@@ -19,7 +19,7 @@ loop-word-preserved g c =
     let finding = c.in-Some-of_word.finding in
     let items : c.push.new.self.items ≡ c.loop-word.findings.items ++ finding ∷ [] = search rules in (
       search rules,
-      subst (λ (l : List g.F). pieces_of c.args.list.now ≡ map g.F.Named.name l ++ pieces_of c.in-Some.more.now) (sym items)
+      subst (λ (l : List g.row.F.Denot). pieces_of c.args.list.now ≡ map g.F.Named.name l ++ pieces_of c.in-Some.more.now) (sym items)
           (one_named g.F.Named.name (pieces_of c.args.list.now) (pieces_of rest) (pieces_of c.in-Some.more.now) c.loop-word.findings.items finding
           c.in-Some.word.now c.loop-word.invariant.1 cut c.in-Some-of_word.ensures),
     )
@@ -39,7 +39,7 @@ returns g c =
     let whole = whole_at rest c.split_once.result c.split_once.ensures.cases none in
     let finding = c.in-Some-of_word-2.finding in
     let items : c.push-in-Some-of_word-2.new.self.items ≡ c.loop-word.findings.items ++ finding ∷ [] = search rules in
-    subst (λ (l : List g.F). pieces_of c.args.list.now ≡ map g.F.Named.name l) (sym items)
+    subst (λ (l : List g.row.F.Denot). pieces_of c.args.list.now ≡ map g.F.Named.name l) (sym items)
     (one_named g.F.Named.name (pieces_of c.args.list.now) (pieces_of rest) [] c.loop-word.findings.items finding rest c.loop-word.invariant.1 whole
     c.in-Some-of_word-2.ensures
     ∙ append-nil (map g.F.Named.name (c.loop-word.findings.items ++ finding ∷ [])))
