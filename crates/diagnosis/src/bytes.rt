@@ -1,0 +1,37 @@
+//! The first byte of a line that isn't printable ASCII.
+use crate::reason::Stray;
+use std::str;
+
+/// Where the first byte stands that isn't printable ASCII, or the line's length.
+pub fn stray_place(line: &[u8]) -> usize {
+    let mut place = 0;
+    while place < line.len() && matches!(line[place], b' '..=b'~') {
+        place += 1;
+    }
+    place
+}
+
+/// What the bytes begin with, which aren't printable ASCII and end the line. They may be the mark of a file, where they begin it.
+pub fn stray_of(bytes: &[u8], begins_file: bool) -> Stray {
+    match bytes {
+        [0xEF, 0xBB, 0xBF, ..] if begins_file => Stray::ByteOrderMark,
+        [0xFF, 0xFE, ..] | [0xFE, 0xFF, ..] if begins_file => Stray::WideMark,
+        [b'\r'] => Stray::CarriageReturn,
+        [b'\t', ..] => Stray::Tab,
+        [0xC2, 0xA0, ..] => Stray::NoBreakSpace,
+        [first, ..] => letter_of(bytes).map_or(Stray::Byte(*first), Stray::BeyondAscii),
+        [] => Stray::Byte(b'\n'),
+    }
+}
+
+/// The character of UTF-8 that the bytes begin with, where it is beyond ASCII.
+fn letter_of(bytes: &[u8]) -> Option<char> {
+    for len in 2..5 {
+        if let Some(front) = bytes.get(..len) {
+            if let Ok(text) = str::from_utf8(front) {
+                return text.chars().next().filter(|letter| !letter.is_ascii());
+            }
+        }
+    }
+    None
+}

@@ -1,0 +1,19 @@
+//! What helps to mend a fault: the line that it stands in, what was read there, and what may stand there.
+#![tactic(auto)]
+
+mod bytes;
+mod commands;
+mod diagnosis;
+mod entry;
+mod heading;
+mod history;
+mod lines;
+mod near;
+mod reason;
+mod request;
+mod script;
+mod shown;
+mod tokens;
+
+pub use diagnosis::{Diagnosis, Language};
+pub use lines::line_at;
