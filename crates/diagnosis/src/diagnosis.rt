@@ -31,6 +31,47 @@ impl Language {
             Language::Journal => ENTRY_MAX,
         }
     }
+
+    /// The most bytes of a file.
+    fn size_max(self) -> u64 {
+        match self {
+            Language::Script => SCRIPT_MAX as u64,
+            Language::Journal => 67_108_864,
+            Language::History => 1_099_511_627_776,
+        }
+    }
+}
+
+/// A file that was read, as far as it was kept.
+#[derive(Clone, Copy, Debug)]
+pub struct Text<'a> {
+    /// Its name.
+    pub name: &'a str,
+    /// What it is.
+    pub language: Language,
+    /// The bytes that were kept: all, or a front.
+    pub bytes: &'a [u8],
+}
+
+/// The lines behind that of a fault of a file: those of the [`Diagnosis`], or that the file is too long, or that the line wasn't kept.
+pub fn told_of(alloc: Global, text: Text<'_>, fault: ScriptFault) -> Result<String, AllocError> {
+    let Text {
+        name,
+        language,
+        bytes,
+    } = text;
+    if fault.line == 0 {
+        let most = language.size_max();
+        return format!(in alloc; "{name}: it may have {most} bytes\n");
+    }
+    match Diagnosis::of(alloc, language, bytes, fault)? {
+        Some(diagnosis) => diagnosis.text(alloc, name),
+        None => {
+            let line = fault.line;
+            let kept = bytes.len();
+            format!(in alloc; "{name}:{line}: the line is behind the {kept} bytes that were kept\n")
+        }
+    }
 }
 
 /// Where a fault is, and why.

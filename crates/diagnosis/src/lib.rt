@@ -15,5 +15,5 @@ mod script;
 mod shown;
 mod tokens;
 
-pub use diagnosis::{Diagnosis, Language};
+pub use diagnosis::{Diagnosis, Language, Text, told_of};
 pub use lines::line_at;

@@ -1,5 +1,5 @@
 //! Faulty lines, and what stands behind their faults, each derived by hand from docs/RULES.md.
-use diagnosis::{Diagnosis, Language};
+use diagnosis::{Language, Text, told_of};
 use script_core::{Cause, JournalFault, JournalReader, ScriptFault, parse};
 use std::alloc::Global;
 use std::test::Fail;
@@ -660,7 +660,7 @@ const HISTORIES: [HistoryRow; 21] = [
 ];
 
 /// What stands behind the fault of a text, if it has one.
-fn told_of(
+fn told_behind(
     alloc: Global,
     language: Language,
     bytes: &[u8],
@@ -669,10 +669,13 @@ fn told_of(
     let Some(fault) = fault else {
         return Ok(String::new(alloc));
     };
-    match Diagnosis::of(alloc, language, bytes, fault)? {
-        Some(diagnosis) => Ok(diagnosis.text(alloc, "f")?),
-        None => Ok(String::from_str(alloc, "no line\n")?),
-    }
+    let name = "f";
+    let text = Text {
+        name,
+        language,
+        bytes,
+    };
+    Ok(told_of(alloc, text, fault)?)
 }
 
 /// What is to stand there by a row.
@@ -706,7 +709,7 @@ fn fault_of_journal(alloc: Global, bytes: &[u8]) -> Result<Option<ScriptFault>, 
 fn scripts_by_hand(rt: HostRuntime) -> Result<(), Fail> {
     for (bytes, told, shown, caret) in SCRIPTS {
         let fault = fault_of_script(rt.alloc(), bytes);
-        let seen = told_of(rt.alloc(), Language::Script, bytes, fault)?;
+        let seen = told_behind(rt.alloc(), Language::Script, bytes, fault)?;
         let due = due(rt.alloc(), told, shown, caret)?;
         assert_eq!(rt; seen.as_str(), due.as_str());
     }
@@ -718,7 +721,7 @@ fn scripts_by_hand(rt: HostRuntime) -> Result<(), Fail> {
 fn journals_by_hand(rt: HostRuntime) -> Result<(), Fail> {
     for (bytes, told, shown, caret) in JOURNALS {
         let fault = fault_of_journal(rt.alloc(), bytes)?;
-        let seen = told_of(rt.alloc(), Language::Journal, bytes, fault)?;
+        let seen = told_behind(rt.alloc(), Language::Journal, bytes, fault)?;
         let due = due(rt.alloc(), told, shown, caret)?;
         assert_eq!(rt; seen.as_str(), due.as_str());
     }
@@ -731,7 +734,7 @@ fn histories_by_hand(rt: HostRuntime) -> Result<(), Fail> {
     for (bytes, cause, told, shown, caret) in HISTORIES {
         let line = bytes.split(|byte| *byte == b'\n').count() as u64;
         let fault = Some(ScriptFault { line, cause });
-        let seen = told_of(rt.alloc(), Language::History, bytes, fault)?;
+        let seen = told_behind(rt.alloc(), Language::History, bytes, fault)?;
         let due = due(rt.alloc(), told, shown, caret)?;
         assert_eq!(rt; seen.as_str(), due.as_str());
     }
@@ -755,7 +758,7 @@ fn long_lines(rt: HostRuntime) -> Result<(), Fail> {
     let spaces = repeated(rt.alloc(), ' ', 121)?;
     let line = format!(in rt.alloc(); "\t{letters}")?;
     let fault = fault_of_script(rt.alloc(), line.as_bytes());
-    let seen = told_of(rt.alloc(), Language::Script, line.as_bytes(), fault)?;
+    let seen = told_behind(rt.alloc(), Language::Script, line.as_bytes(), fault)?;
     let due = format!(in rt.alloc();
         "f:1:121: read a line of 121 bytes; it may have 120\n    \\t{letters}\n    {spaces}^\n"
     )?;
@@ -764,7 +767,7 @@ fn long_lines(rt: HostRuntime) -> Result<(), Fail> {
     let letters = repeated(rt.alloc(), 'x', 160)?;
     let spaces = repeated(rt.alloc(), ' ', 102)?;
     let fault = fault_of_script(rt.alloc(), line.as_bytes());
-    let seen = told_of(rt.alloc(), Language::Script, line.as_bytes(), fault)?;
+    let seen = told_behind(rt.alloc(), Language::Script, line.as_bytes(), fault)?;
     let due = format!(in rt.alloc();
         "f:1:121: read a line of 200 bytes; it may have 120\n    ..{letters}..\n    {spaces}^\n"
     )?;
@@ -772,14 +775,30 @@ fn long_lines(rt: HostRuntime) -> Result<(), Fail> {
     Ok(())
 }
 
-/// A script that is too long as a whole has no line 0, and there is no line behind the last one.
+/// What is told of a fault of this line, where these bytes of a file were kept.
+fn told_at(alloc: Global, language: Language, line: u64) -> Result<String, Fail> {
+    let text = Text {
+        name: "f",
+        language,
+        bytes: b"1 exit\n",
+    };
+    let fault = ScriptFault {
+        line,
+        cause: Cause::TooLong,
+    };
+    Ok(told_of(alloc, text, fault)?)
+}
+
+/// A file that is too long as a whole has no line 0, and a line that wasn't kept isn't shown.
 #[test]
 fn lines_that_are_not_there(rt: HostRuntime) -> Result<(), Fail> {
-    for line in [0, 2] {
-        let cause = Cause::TooLong;
-        let fault = Some(ScriptFault { line, cause });
-        let seen = told_of(rt.alloc(), Language::Script, b"1 exit\n", fault)?;
-        assert_eq!(rt; seen.as_str(), "no line\n");
-    }
+    let script = told_at(rt.alloc(), Language::Script, 0)?;
+    assert_eq!(rt; script.as_str(), "f: it may have 1048576 bytes\n");
+    let journal = told_at(rt.alloc(), Language::Journal, 0)?;
+    assert_eq!(rt; journal.as_str(), "f: it may have 67108864 bytes\n");
+    let history = told_at(rt.alloc(), Language::History, 0)?;
+    assert_eq!(rt; history.as_str(), "f: it may have 1099511627776 bytes\n");
+    let behind = told_at(rt.alloc(), Language::History, 2)?;
+    assert_eq!(rt; behind.as_str(), "f:2: the line is behind the 7 bytes that were kept\n");
     Ok(())
 }

@@ -1,5 +1,6 @@
 //! What the program reads from and writes to.
 use crate::faults::Fault;
+use crate::notes::{InputNotes, Noted, Writing};
 use either::Either;
 use json_lines::Objects;
 use line_writer::LineWriter;
@@ -7,38 +8,49 @@ use range_core::Memory;
 use replay_core::{FromReader, ToWriter};
 use std::fs;
 use std::fs::Files;
-use std::io::{Printer, writer};
+use std::io::{Error as IoError, Printer, writer};
 use timeline::Timeline;
 
-/// The file, or standard input where there is none.
-pub fn input<R: Files + Input>(
+/// The file, or standard input where there is none. What is read is noted.
+pub fn input<'n, R: Files + Input>(
     rt: &R,
     path: Option<&str>,
-) -> Result<FromReader<Either<R::File, R::Reader>>, Fault> {
+    notes: &'n mut InputNotes,
+) -> Result<FromReader<Noted<'n, Either<R::File, R::Reader>>>, Fault> {
+    notes.open(path)?;
     let reader = match path {
-        Some(path) => Either::Left(fs::open(rt, path).map_err(Fault::of_input)?),
+        Some(path) => match fs::open(rt, path) {
+            Ok(file) => Either::Left(file),
+            Err(error) => return Err(Fault::of_input(notes.fail(error))),
+        },
         None => Either::Right(rt.reader()),
     };
-    Ok(FromReader::new(reader))
+    Ok(FromReader::new(Noted::new(reader, notes)))
 }
 
 /// Standard output: its lines as they are, or each as an object.
-pub type Output<'a, R> = ToWriter<Either<Printer<'a, R>, LineWriter<Objects<Printer<'a, R>>>>>;
+pub type Output<'a, 'n, R> =
+    ToWriter<Writing<'n, Either<Printer<'a, R>, LineWriter<Objects<Printer<'a, R>>>>>>;
 
-/// Standard output, with its lines as objects where that is asked for.
-pub fn output<R: AllocGlobal + Print>(rt: &R, json: bool) -> Output<'_, R> {
+/// Standard output, with its lines as objects where that is asked for. Why a write fails is noted.
+pub fn output<'a, 'n, R: AllocGlobal + Print>(
+    rt: &'a R,
+    json: bool,
+    unwritten: &'n mut Option<IoError>,
+) -> Output<'a, 'n, R> {
     let printer = writer(rt);
-    ToWriter::new(if json {
+    let lines = if json {
         let objects = Objects::new(rt.alloc(), printer);
         Either::Right(LineWriter::new(rt.alloc(), objects))
     } else {
         Either::Left(printer)
-    })
+    };
+    ToWriter::new(Writing::new(lines, unwritten))
 }
 
 /// The fault that is told where a job ends with this one: want of memory, where the object of a line found none.
-pub fn fault_of<R: Print>(output: Output<'_, R>, fault: impl Into<Fault> + Drop) -> Fault {
-    match output.into_inner() {
+pub fn fault_of<R: Print>(output: Output<'_, '_, R>, fault: impl Into<Fault> + Drop) -> Fault {
+    match output.into_inner().into_inner() {
         Either::Right(objects) => unless_refused(objects.refused(), fault),
         Either::Left(_) => fault.into(),
     }
@@ -52,10 +64,15 @@ pub fn picture(rt: &impl AllocGlobal) -> Picture {
     ToWriter::new(LineWriter::new(rt.alloc(), Timeline::new(rt.alloc())))
 }
 
-/// Draws the run on standard output.
-pub fn draw(rt: &impl Print, picture: Picture) -> Result<(), Fault> {
+/// Draws the run on standard output. Why a write fails is noted.
+pub fn draw(
+    rt: &impl Print,
+    picture: Picture,
+    unwritten: &mut Option<IoError>,
+) -> Result<(), Fault> {
     let timeline = picture.into_inner().into_inner();
-    timeline.draw(&mut writer(rt)).map_err(Fault::of_line)
+    let mut writing = Writing::new(writer(rt), unwritten);
+    timeline.draw(&mut writing).map_err(Fault::of_line)
 }
 
 /// The fault that is told where a run ends with this one: want of memory, where a row found none.
