@@ -11,9 +11,12 @@ mod lines;
 mod near;
 mod reason;
 mod request;
+mod rerun;
 mod script;
 mod shown;
 mod tokens;
+mod verdict;
 
 pub use diagnosis::{Diagnosis, Language, Text, told_of};
 pub use lines::line_at;
+pub use verdict::{told_of_headers, told_of_illegal};

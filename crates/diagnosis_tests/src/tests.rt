@@ -1,5 +1,5 @@
 //! Faulty lines, and what stands behind their faults, each derived by hand from docs/RULES.md.
-use diagnosis::{Language, Text, told_of};
+use diagnosis::{Language, Text, told_of, told_of_headers, told_of_illegal};
 use script_core::{Cause, JournalFault, JournalReader, ScriptFault, parse};
 use std::alloc::Global;
 use std::test::Fail;
@@ -799,6 +799,90 @@ fn lines_that_are_not_there(rt: HostRuntime) -> Result<(), Fail> {
     let history = told_at(rt.alloc(), Language::History, 0)?;
     assert_eq!(rt; history.as_str(), "f: it may have 1099511627776 bytes\n");
     let behind = told_at(rt.alloc(), Language::History, 2)?;
-    assert_eq!(rt; behind.as_str(), "f:2: the line is behind the 7 bytes that were kept\n");
+    assert_eq!(rt;
+        behind.as_str(),
+        "f:2: the line is behind the 7 bytes that were kept\n"
+    );
+    Ok(())
+}
+
+/// Illegal journals, and what stands behind the verdict on each.
+const ILLEGAL: [(&str, &str); 8] = [
+    // An answer of another kind, with what explains the one that is due.
+    (
+        "1#1 open 0 rw | 1#1 fd 0\n1#2 fork 2 | 1#2 ok\n1#3 setlk 0 w set 0 9 | 1#3 ok\n2#1 setlk 0 r set 5 1 | 2#1 ok\n",
+        "f:4:29: read \"ok\"; expected \"EAGAIN\"\n    2#1 setlk 0 r set 5 1 | 2#1 ok\n                                ^\n# 2#1 blocked by lock 0 process 1 w 0 8\n",
+    ),
+    // A note that is missing.
+    (
+        "1#1 open 0 rw\n",
+        "f:1:14: read the end of the line; expected \"| 1#1 fd 0\"\n    1#1 open 0 rw\n                 ^\n",
+    ),
+    // A note too many.
+    (
+        "1#1 open 0 rw | 1#1 fd 0 | 1#1 ok\n",
+        "f:1:26: read \"|\"; expected the end of the line\n    1#1 open 0 rw | 1#1 fd 0 | 1#1 ok\n                             ^\n",
+    ),
+    // A number out of turn.
+    (
+        "# x\n1#2 open 0 rw | 1#2 fd 0\n",
+        "f:2:1: read \"1#2\"; expected \"1#1\"\n    1#2 open 0 rw | 1#2 fd 0\n    ^\n",
+    ),
+    // A process that takes no request.
+    (
+        "2#1 open 0 rw | 2#1 fd 0\n",
+        "f:1:1: read \"2#1\"; its process takes no request here\n    2#1 open 0 rw | 2#1 fd 0\n    ^\n# 2#1 never taken: process 2 was never born\n",
+    ),
+    // A line of the report, and a report that is cut short.
+    (
+        "1#1 open 0 rw | 1#1 fd 0\nlock 0 process 1 w 0 9\n",
+        "f:2:1: read \"lock\"; the report has another line here\n    lock 0 process 1 w 0 9\n    ^\n",
+    ),
+    (
+        "1#1 open 0 rw | 1#1 fd 0\n1#2 setlk 0 w set 0 1 | 1#2 ok\nlock 0 process 1 w 0 0\n",
+        "f:4: the report ends too soon\n",
+    ),
+    // Under a policy, the wait that is in the way.
+    (
+        "policy queue\n1#1 open 0 rw | 1#1 fd 0\n1#2 fork 2 | 1#2 ok\n1#3 fork 3 | 1#3 ok\n1#4 setlk 0 r set 0 1 | 1#4 ok\n2#1 setlkw 0 w set 0 1 | 2#1 waits\n3#1 setlkw 0 r set 0 1 | 3#1 ok\n",
+        "f:7:30: read \"ok\"; expected \"waits\"\n    3#1 setlkw 0 r set 0 1 | 3#1 ok\n                                 ^\n# 3#1 behind wait 2#1 0 process 2 w 0 0\n",
+    ),
+];
+
+/// Behind the verdict on each of these journals stands what is written here.
+#[test]
+fn illegal_journals_by_hand(rt: HostRuntime) -> Result<(), Fail> {
+    for (journal, told) in ILLEGAL {
+        let seen = told_of_illegal(rt.alloc(), "f", journal.as_bytes())?;
+        assert_eq!(rt; seen.as_str(), told);
+    }
+    Ok(())
+}
+
+/// Journals, and the header lines that each lacks, where it lacks nothing else.
+const HEADLESS: [(&str, &str); 5] = [
+    (
+        "1#1 fork 17 | 1#1 ok\n17#1 open 0 rw | 17#1 fd 0\n",
+        "put \"limits wide\" before it\n",
+    ),
+    (
+        "1#1 open 0 rw | 1#1 fd 0\n1#2 fork 2 | 1#2 ok\n1#3 fork 3 | 1#3 ok\n1#4 setlk 0 r set 0 1 | 1#4 ok\n2#1 setlkw 0 w set 0 1 | 2#1 waits\n3#1 setlkw 0 r set 0 1 | 3#1 waits\n",
+        "put \"policy queue\" before it\n",
+    ),
+    (
+        "1#1 open 0 rw | 1#1 fd 0\n1#2 fork 2 | 1#2 ok\n1#3 fork 64 | 1#3 ok\n1#4 setlk 0 r set 0 1 | 1#4 ok\n2#1 setlkw 0 w set 0 1 | 2#1 waits\n64#1 setlkw 0 r set 0 1 | 64#1 waits\n",
+        "put \"policy queue\" and \"limits wide\" before it\n",
+    ),
+    ("1#1 fork 65 | 1#1 ok\n", ""),
+    ("1#1 fork 17 | 1#1 EAGAIN\n", ""),
+];
+
+/// Each of these journals lacks the header lines that are written here.
+#[test]
+fn headless_journals_by_hand(rt: HostRuntime) -> Result<(), Fail> {
+    for (journal, told) in HEADLESS {
+        let seen = told_of_headers(rt.alloc(), journal.as_bytes())?;
+        assert_eq!(rt; seen, told);
+    }
     Ok(())
 }

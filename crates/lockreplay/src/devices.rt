@@ -29,8 +29,9 @@ pub fn input<'n, R: Files + Input>(
 }
 
 /// Standard output: its lines as they are, or each as an object.
-pub type Output<'a, 'n, R> =
-    ToWriter<Writing<'n, Either<Printer<'a, R>, LineWriter<Objects<Printer<'a, R>>>>>>;
+pub type Output<'a, 'n, R> = ToWriter<
+    Writing<'n, Either<Printer<'a, R>, LineWriter<Objects<Printer<'a, R>>>>>,
+>;
 
 /// Standard output, with its lines as objects where that is asked for. Why a write fails is noted.
 pub fn output<'a, 'n, R: AllocGlobal + Print>(

@@ -15,8 +15,8 @@ mod notes;
 mod options;
 mod progress;
 
-use diagnosis::Language;
 use devices::{draw, fault_of, fault_of_picture, input, output, picture};
+use diagnosis::Language;
 use explore_line::explore_options;
 use explore_run::{Exploring, Watch, explore_script};
 use faults::Fault;
@@ -38,18 +38,19 @@ use std::sync::Wait;
 use std::thread::Threads;
 use std::time::Clock;
 
-/// A fault is told on standard error, and its status is the program's.
+/// A fault is told on standard error, behind it what `--diagnose` asks for, and its status is the program's.
 fn main(rt: HostRuntime) -> ExitCode {
     let mut notes = Notes::new(rt.alloc());
-    match run(&rt, rt.stderr(), &mut notes) {
+    let ended = run(&rt, rt.stderr(), &mut notes);
+    if let Err(fault) = &ended {
+        let _ = eprint!(rt; "{fault}");
+    }
+    if let Ok(Some(told)) = notes.told(rt.alloc(), &ended) {
+        let _ = eprint!(rt; "{told}");
+    }
+    match ended {
         Ok(status) => ExitCode::from(status),
-        Err(fault) => {
-            let _ = eprint!(rt; "{fault}");
-            if let Ok(Some(told)) = notes.told(rt.alloc(), &fault) {
-                let _ = eprint!(rt; "{told}");
-            }
-            ExitCode::from(fault.status())
-        }
+        Err(fault) => ExitCode::from(fault.status()),
     }
 }
 

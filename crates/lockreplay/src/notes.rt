@@ -1,10 +1,11 @@
 //! What `--diagnose` tells behind the line of a fault, and what is noted of a run for it.
 use crate::faults::Fault;
-use diagnosis::{Language, Text, told_of};
+use diagnosis::{Language, Text, told_of, told_of_headers, told_of_illegal};
 use history_run::HistoryFault;
 use range_core::Memory;
 use replay_core::RunFault;
-use std::alloc::{AllocError, Global};
+use script_core::ScriptFault;
+use std::alloc::Global;
 use std::io::{Error as IoError, Read, Result as IoResult, Write};
 
 /// How many bytes of what is read are kept at most (this project's choice).
@@ -12,6 +13,7 @@ const KEPT_MAX: usize = 1 << 26;
 
 /// How standard input and output are called.
 const STANDARD_INPUT: &str = "<stdin>";
+
 const STANDARD_OUTPUT: &str = "<stdout>";
 
 /// What is noted of a run.
@@ -41,28 +43,44 @@ impl Notes {
         }
     }
 
-    /// What stands behind the line of the fault, where it is asked for.
-    pub fn told(&self, alloc: Global, fault: &Fault) -> Result<Option<String>, AllocError> {
-        if !self.input.asked {
-            return Ok(None);
-        }
-        match fault {
-            Fault::Run(RunFault::Script(fault)) => {
-                let text = Text {
-                    name: self.input.name(),
-                    language: self.language,
-                    bytes: self.input.lines(),
-                };
-                told_of(alloc, text, *fault).map(Some)
+    /// What stands behind the line of the fault, or behind an illegal journal's, where it is asked for.
+    pub fn told(&self, alloc: Global, ended: &Result<u8, Fault>) -> Result<Option<String>, Memory> {
+        match ended {
+            _ if !self.input.asked => Ok(None),
+            Ok(3) if self.language == Language::Journal => self.told_of_illegal(alloc),
+            Ok(_) => Ok(None),
+            Err(Fault::Run(RunFault::Script(fault))) => self.told_of_script(alloc, *fault),
+            Err(Fault::Run(RunFault::Read) | Fault::History(HistoryFault::Read)) => {
+                told_of_error(alloc, &self.input.name, self.input.unread)
             }
-            Fault::Run(RunFault::Read) | Fault::History(HistoryFault::Read) => {
-                told_of_error(alloc, self.input.name(), self.input.unread)
-            }
-            Fault::Run(RunFault::Write) | Fault::History(HistoryFault::Write) => {
+            Err(Fault::Run(RunFault::Write) | Fault::History(HistoryFault::Write)) => {
                 told_of_error(alloc, STANDARD_OUTPUT, self.unwritten)
             }
-            _ => Ok(None),
+            Err(_) => Ok(None),
         }
+    }
+
+    /// The same of an illegal journal.
+    fn told_of_illegal(&self, alloc: Global) -> Result<Option<String>, Memory> {
+        let bytes = self.input.lines();
+        let mut text = told_of_illegal(alloc, &self.input.name, bytes)?;
+        text.push_str(told_of_headers(alloc, bytes)?)?;
+        Ok(Some(text))
+    }
+
+    /// The same of a text that isn't one of its language.
+    fn told_of_script(&self, alloc: Global, fault: ScriptFault) -> Result<Option<String>, Memory> {
+        let bytes = self.input.lines();
+        let text = Text {
+            name: &self.input.name,
+            language: self.language,
+            bytes,
+        };
+        let mut text = told_of(alloc, text, fault)?;
+        if self.language == Language::Journal {
+            text.push_str(told_of_headers(alloc, bytes)?)?;
+        }
+        Ok(Some(text))
     }
 }
 
@@ -71,12 +89,12 @@ fn told_of_error(
     alloc: Global,
     name: &str,
     error: Option<IoError>,
-) -> Result<Option<String>, AllocError> {
+) -> Result<Option<String>, Memory> {
     match error {
         Some(error) => {
             let word = error.to_string(alloc)?;
             let word = word.split(" (os error").next().unwrap_or("");
-            format!(in alloc; "{name}: {word}\n").map(Some)
+            Ok(Some(format!(in alloc; "{name}: {word}\n")?))
         }
         None => Ok(None),
     }
@@ -122,11 +140,6 @@ impl InputNotes {
         } else {
             self.is_whole = false;
         }
-    }
-
-    /// How it is called.
-    fn name(&self) -> &str {
-        &self.name
     }
 
     /// The bytes of the lines that were kept whole.
