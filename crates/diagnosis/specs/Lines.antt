@@ -8,3 +8,9 @@ pub record IsLineAt (bytes : List ℕ) (number : ℕ) (line : List ℕ) : Type 0
   pub behind : List (List ℕ)
   pub are : lines_of bytes ≡ before ++ line ∷ behind
   pub count : length before + 1 ≡ number
+
+-- all lines in front of the one of this number were read, and this is left
+pub record IsReadUpTo (bytes : List ℕ) (number : ℕ) (rest : List ℕ) : Type 0 where
+  pub before : List (List ℕ)
+  pub are : lines_of bytes ≡ before ++ lines_of rest
+  pub count : length before + 1 ≡ number

@@ -1,14 +1,27 @@
 //! The first byte of a line that isn't printable ASCII.
+ghost use Rattle.std.specs.Prelude.{◌↔◌, IsTrue};
+ghost use Rattle.diagnosis.specs.Places.{IsOfStray, IsPrintable};
+
 use crate::reason::Stray;
 use std::str;
 
-/// Where the first byte stands that isn't printable ASCII, or the line's length.
-pub fn stray_place(line: &[u8]) -> usize {
-    let mut place = 0;
-    while place < line.len() && matches!(line[place], b' '..=b'~') {
-        place += 1;
+/// Where the first byte stands that isn't printable ASCII, or the line ends.
+pub fn stray_place(line: &[u8]) -> usize
+    ensures { IsOfStray line.now result }
+{
+    for (place, byte) in line.iter().enumerate() {
+        if !is_printable(*byte) {
+            return place;
+        }
     }
-    place
+    line.len()
+}
+
+/// Whether the byte is printable ASCII, or a space.
+pub fn is_printable(byte: u8) -> bool
+    ensures { IsTrue result ↔ IsPrintable byte }
+{
+    b' ' <= byte && byte <= b'~'
 }
 
 /// What the bytes begin with, which aren't printable ASCII and end the line. They may be the mark of a file, where they begin it.

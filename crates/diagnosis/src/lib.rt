@@ -7,6 +7,7 @@ mod diagnosis;
 mod entry;
 mod heading;
 mod history;
+mod language;
 mod lines;
 mod near;
 mod reason;
@@ -17,6 +18,6 @@ mod shown;
 mod tokens;
 mod verdict;
 
-pub use diagnosis::{Diagnosis, Language, Text, told_of};
-pub use lines::line_at;
+pub use diagnosis::{Text, told_of};
+pub use language::Language;
 pub use verdict::{told_of_headers, told_of_illegal};

@@ -1,4 +1,5 @@
 //! Which word may have been meant.
+ghost use Rattle.std.specs.Prelude.{◌≤◌, length};
 
 /// The first of the words that is near this one: the same but for the case of its letters, or one letter away.
 pub fn nearest(word: &str, words: &[&'static str]) -> Option<&'static str> {
@@ -33,7 +34,9 @@ fn is_near(word: &[u8], known: &[u8]) -> bool {
 }
 
 /// How many bytes at the front of both are equal.
-fn equal_front(word: &[u8], known: &[u8]) -> usize {
+fn equal_front(word: &[u8], known: &[u8]) -> usize
+    ensures { (result ≤ length word.now) × (result ≤ length known.now) }
+{
     let most = word.len().min(known.len());
     for place in 0..most {
         if word[place] != known[place] {

@@ -1,6 +1,6 @@
 //! The words of a line, with the places where they begin.
-ghost use Rattle.std.specs.Prelude.{◌≡◌, ◌≢◌, ◌≤◌, ◌<◌, ◌-◌, ◌×◌, true, IfOk, All, length, slice_index};
-ghost use Rattle.diagnosis.specs.Columns.{BeginsWord, MayStandAt};
+ghost use Rattle.std.specs.Prelude.{◌≡◌, ◌≢◌, ◌≤◌, ◌<◌, ◌-◌, true, IfOk, All, length, slice_index};
+ghost use Rattle.diagnosis.specs.Places.{BeginsWord, IsOfWord};
 
 use std::alloc::{AllocError, Global};
 use std::str;
@@ -43,11 +43,12 @@ fn behind_spaces(line: &[u8], from: usize) -> usize
     ensures no_space { result < length line.now → slice_index line.now result ≢ 32 }
     ensures spaces { from < result → slice_index line.now (result - 1) ≡ 32 }
 {
-    let mut place = from;
-    while place < line.len() && line[place] == b' ' {
-        place += 1;
+    for place in from..line.len() {
+        if line[place] != b' ' {
+            return place;
+        }
     }
-    place
+    line.len()
 }
 
 /// Where the word ends that begins at this place.
@@ -57,23 +58,31 @@ fn word_end(line: &[u8], start: usize, bars: bool) -> usize
     ensures ends { result < length line.now → slice_index line.now result ≢ 32 →
         (bars ≡ true) × (slice_index line.now result ≢ 124 → slice_index line.now (result - 1) ≡ 124) }
 {
-    let mut place = start + 1;
     if bars && line[start] == b'|' {
-        return place;
+        return start + 1;
     }
-    while place < line.len() && !ends_word(line[place], bars) {
-        place += 1;
+    for place in start + 1..line.len() {
+        if ends_word(line[place], bars) {
+            return place;
+        }
     }
-    place
+    line.len()
 }
 
 /// Whether a word ends in front of this byte.
-fn ends_word(byte: u8, bars: bool) -> bool {
+fn ends_word(byte: u8, bars: bool) -> bool
+    ensures space { byte ≡ 32 → result ≡ true }
+    ensures bar { bars ≡ true → byte ≡ 124 → result ≡ true }
+    ensures no_other { result ≡ true → byte ≢ 32 → (bars ≡ true) × (byte ≡ 124) }
+{
     byte == b' ' || (bars && byte == b'|')
 }
 
 /// Where the word of this index begins, or the line ends where it has fewer.
-pub fn start_of(line: &[u8], tokens: &[Token<'_>], index: usize) -> usize {
+pub fn start_of(line: &[u8], tokens: &[Token<'_>], index: usize, bars: bool) -> usize
+    requires { All (λ token. BeginsWord bars line.now token.start) tokens.now }
+    ensures { IsOfWord bars line.now result }
+{
     match tokens.get(index) {
         Some(token) => token.start,
         None => line.len(),

@@ -2,7 +2,7 @@
 use crate::lines::line_at;
 use crate::reason::Read;
 use crate::rerun::Rerun;
-use crate::shown::push_shown;
+use crate::shown::picture;
 use crate::tokens::{Token, start_of, tokens};
 use range_core::Memory;
 use replay_core::{FromReader, Outcome, RunFault, ToWriter, check};
@@ -53,14 +53,14 @@ fn push_difference(
         None => Vec::new(alloc),
     };
     let index = first_difference(&words, &due);
-    let start = start_of(line, &words, index);
+    let start = start_of(line, &words, index, true);
     let column = start.saturating_add(1);
     let read = words
         .get(index)
         .map_or(Read::End, |word| Read::Word(word.text));
     write!(text, "{name}:{number}:{column}: read {read}; ")?;
     push_due(text, rerun, &due, index)?;
-    push_shown(text, line, start)
+    text.push_str(&picture(alloc, line, start)?)
 }
 
 /// Appends what is due in place of the word of this index.
