@@ -82,17 +82,17 @@ impl Heading {
     /// Why a line of this first word is no header line here, where it would be one elsewhere.
     pub fn refuses(&self, word: &str) -> Option<Reason<'static>> {
         match word {
-            "policy" => self.refuses_header(Header::Policy, self.policy),
-            "limits" => self.refuses_header(Header::Limits, self.limits),
+            "policy" => self.refuses_header(self.policy),
+            "limits" => self.refuses_header(self.limits),
             _ => None,
         }
     }
 
-    /// Why this header line, which stood in this line, may not stand here.
-    fn refuses_header(&self, header: Header, line: Option<u64>) -> Option<Reason<'static>> {
+    /// Why a header line that stood in this line may not stand here.
+    fn refuses_header(&self, line: Option<u64>) -> Option<Reason<'static>> {
         match (line, self.first) {
-            (Some(line), _) => Some(Reason::Once(header, line)),
-            (None, Some(first)) => Some(Reason::Late(header, first)),
+            (Some(line), _) => Some(Reason::Once(line)),
+            (None, Some(first)) => Some(Reason::Late(first)),
             (None, None) => None,
         }
     }

@@ -64,10 +64,10 @@ pub enum Reason<'a> {
     OnlyAscii(Stray),
     /// A line of no more bytes.
     Shorter(usize),
-    /// This header line, but no longer: the first request stands in this line.
-    Late(Header, u64),
-    /// This header line, but once: it stands in this line.
-    Once(Header, u64),
+    /// A header line, but no longer: the first request stands in this line.
+    Late(u64),
+    /// A header line, but once: it stands in this line.
+    Once(u64),
     /// A comment, on a line of its own.
     Comment,
     /// The number of a process. It is told whether wide limits would have the one that was read.
@@ -132,15 +132,6 @@ impl Display for Read<'_> {
             Read::End => f.write_str("the end of the line"),
             Read::Stray(stray) => write!(f, "{stray}"),
             Read::Long(bytes) => write!(f, "a line of {bytes} bytes"),
-        }
-    }
-}
-
-impl Display for Header {
-    fn fmt<W: Write>(&self, f: &mut Formatter<W>) -> fmt::Result {
-        match *self {
-            Header::Policy => f.write_str("policy"),
-            Header::Limits => f.write_str("limits"),
         }
     }
 }
@@ -230,11 +221,11 @@ impl Display for Reason<'_> {
         match *self {
             Reason::OnlyAscii(stray) => write_only_ascii(f, stray),
             Reason::Shorter(most) => write!(f, "it may have {most}"),
-            Reason::Late(_, line) => write!(
+            Reason::Late(line) => write!(
                 f,
                 "it stands before all requests, and the first is in line {line}"
             ),
-            Reason::Once(_, line) => write!(f, "it stands once, and line {line} has it"),
+            Reason::Once(line) => write!(f, "it stands once, and line {line} has it"),
             Reason::Comment => f.write_str("a comment stands on a line of its own"),
             Reason::Report(line) => write!(
                 f,

@@ -36,7 +36,11 @@ fn illegal_line(alloc: Global, bytes: &[u8]) -> Result<u64, Memory> {
             Err(JournalFault::Grammar(_) | JournalFault::Illegal) => return Ok(number),
         }
     }
-    Ok(number)
+    if bytes.ends_with(b"\n") {
+        Ok(number)
+    } else {
+        Ok(number.saturating_add(1))
+    }
 }
 
 /// Appends where the line differs from the one that is due, and the line with a caret there.

@@ -807,7 +807,7 @@ fn lines_that_are_not_there(rt: HostRuntime) -> Result<(), Fail> {
 }
 
 /// Illegal journals, and what stands behind the verdict on each.
-const ILLEGAL: [(&str, &str); 8] = [
+const ILLEGAL: [(&str, &str); 9] = [
     // An answer of another kind, with what explains the one that is due.
     (
         "1#1 open 0 rw | 1#1 fd 0\n1#2 fork 2 | 1#2 ok\n1#3 setlk 0 w set 0 9 | 1#3 ok\n2#1 setlk 0 r set 5 1 | 2#1 ok\n",
@@ -840,6 +840,10 @@ const ILLEGAL: [(&str, &str); 8] = [
     ),
     (
         "1#1 open 0 rw | 1#1 fd 0\n1#2 setlk 0 w set 0 1 | 1#2 ok\nlock 0 process 1 w 0 0\n",
+        "f:4: the report ends too soon\n",
+    ),
+    (
+        "1#1 open 0 rw | 1#1 fd 0\n1#2 setlk 0 w set 0 1 | 1#2 ok\nlock 0 process 1 w 0 0",
         "f:4: the report ends too soon\n",
     ),
     // Under a policy, the wait that is in the way.

@@ -1,23 +1,23 @@
 //! What the program reads from and writes to.
 use crate::faults::Fault;
-use crate::notes::{InputNotes, Noted, Writing};
+use crate::notes::{Kept, Noted, Notes, Writing};
 use either::Either;
 use json_lines::Objects;
 use line_writer::LineWriter;
 use range_core::Memory;
-use replay_core::{FromReader, ToWriter};
+use replay_core::ToWriter;
 use std::fs;
 use std::fs::Files;
-use std::io::{Error as IoError, Printer, writer};
+use std::io::{Printer, writer};
 use timeline::Timeline;
 
-/// The file, or standard input where there is none. What is read is noted.
-pub fn input<'n, R: Files + Input>(
+/// The file, or standard input where there is none. What is read is kept, where that is asked for.
+pub fn input<R: AllocGlobal + Files + Input>(
     rt: &R,
     path: Option<&str>,
-    notes: &'n mut InputNotes,
-) -> Result<FromReader<Noted<'n, Either<R::File, R::Reader>>>, Fault> {
-    notes.open(path)?;
+    notes: &mut Notes,
+) -> Result<Noted<Either<R::File, R::Reader>>, Fault> {
+    let asked = notes.open(path)?;
     let reader = match path {
         Some(path) => match fs::open(rt, path) {
             Ok(file) => Either::Left(file),
@@ -25,20 +25,16 @@ pub fn input<'n, R: Files + Input>(
         },
         None => Either::Right(rt.reader()),
     };
-    Ok(FromReader::new(Noted::new(reader, notes)))
+    Ok(Noted::new(reader, Kept::new(rt.alloc(), asked)))
 }
 
 /// Standard output: its lines as they are, or each as an object.
-pub type Output<'a, 'n, R> = ToWriter<
-    Writing<'n, Either<Printer<'a, R>, LineWriter<Objects<Printer<'a, R>>>>>,
+pub type Output<'a, R> = ToWriter<
+    Writing<Either<Printer<'a, R>, LineWriter<Objects<Printer<'a, R>>>>>,
 >;
 
-/// Standard output, with its lines as objects where that is asked for. Why a write fails is noted.
-pub fn output<'a, 'n, R: AllocGlobal + Print>(
-    rt: &'a R,
-    json: bool,
-    unwritten: &'n mut Option<IoError>,
-) -> Output<'a, 'n, R> {
+/// Standard output, with its lines as objects where that is asked for.
+pub fn output<R: AllocGlobal + Print>(rt: &R, json: bool) -> Output<'_, R> {
     let printer = writer(rt);
     let lines = if json {
         let objects = Objects::new(rt.alloc(), printer);
@@ -46,12 +42,18 @@ pub fn output<'a, 'n, R: AllocGlobal + Print>(
     } else {
         Either::Left(printer)
     };
-    ToWriter::new(Writing::new(lines, unwritten))
+    ToWriter::new(Writing::new(lines))
 }
 
-/// The fault that is told where a job ends with this one: want of memory, where the object of a line found none.
-pub fn fault_of<R: Print>(output: Output<'_, '_, R>, fault: impl Into<Fault> + Drop) -> Fault {
-    match output.into_inner().into_inner() {
+/// The fault that is told where a job ends with this one: want of memory, where the object of a line found none. Why a write failed is noted.
+pub fn fault_of<R: Print>(
+    output: Output<'_, R>,
+    fault: impl Into<Fault> + Drop,
+    notes: &mut Notes,
+) -> Fault {
+    let writing = output.into_inner();
+    notes.unwritten = writing.unwritten();
+    match writing.into_inner() {
         Either::Right(objects) => unless_refused(objects.refused(), fault),
         Either::Left(_) => fault.into(),
     }
@@ -65,15 +67,13 @@ pub fn picture(rt: &impl AllocGlobal) -> Picture {
     ToWriter::new(LineWriter::new(rt.alloc(), Timeline::new(rt.alloc())))
 }
 
-/// Draws the run on standard output. Why a write fails is noted.
-pub fn draw(
-    rt: &impl Print,
-    picture: Picture,
-    unwritten: &mut Option<IoError>,
-) -> Result<(), Fault> {
+/// Draws the run on standard output. Why a write failed is noted.
+pub fn draw(rt: &impl Print, picture: Picture, notes: &mut Notes) -> Result<(), Fault> {
     let timeline = picture.into_inner().into_inner();
-    let mut writing = Writing::new(writer(rt), unwritten);
-    timeline.draw(&mut writing).map_err(Fault::of_line)
+    let mut writing = Writing::new(writer(rt));
+    let drawn = timeline.draw(&mut writing);
+    notes.unwritten = writing.unwritten();
+    drawn.map_err(Fault::of_line)
 }
 
 /// The fault that is told where a run ends with this one: want of memory, where a row found none.

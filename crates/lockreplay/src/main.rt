@@ -126,11 +126,13 @@ fn replay(
     json: bool,
     notes: &mut Notes,
 ) -> Result<u8, Fault> {
-    let mut source = input(rt, path, &mut notes.input)?;
-    let mut sink = output(rt, json, &mut notes.unwritten);
-    match perform(rt, job, &mut source, &mut sink) {
+    let mut source = input(rt, path, notes)?;
+    let mut sink = output(rt, json);
+    let performed = perform(rt, job, &mut source, &mut sink);
+    notes.input = source.into_kept();
+    match performed {
         Ok(outcome) => Ok(outcome.status()),
-        Err(fault) => Err(fault_of(sink, fault)),
+        Err(fault) => Err(fault_of(sink, fault, notes)),
     }
 }
 
@@ -141,11 +143,13 @@ fn replay_drawn(
     path: Option<&str>,
     notes: &mut Notes,
 ) -> Result<u8, Fault> {
-    let mut source = input(rt, path, &mut notes.input)?;
+    let mut source = input(rt, path, notes)?;
     let mut lines = picture(rt);
-    match perform(rt, job, &mut source, &mut lines) {
+    let performed = perform(rt, job, &mut source, &mut lines);
+    notes.input = source.into_kept();
+    match performed {
         Ok(outcome) => {
-            draw(rt, lines, &mut notes.unwritten)?;
+            draw(rt, lines, notes)?;
             Ok(outcome.status())
         }
         Err(fault) => Err(fault_of_picture(lines, fault)),
@@ -162,11 +166,13 @@ fn replay_failing(
     json: bool,
     notes: &mut Notes,
 ) -> Result<u8, Fault> {
-    let mut source = input(rt, path, &mut notes.input)?;
-    let mut sink = output(rt, json, &mut notes.unwritten);
-    match replay_judged(rt.alloc(), detail, fail_on, &mut source, &mut sink) {
+    let mut source = input(rt, path, notes)?;
+    let mut sink = output(rt, json);
+    let replayed = replay_judged(rt.alloc(), detail, fail_on, &mut source, &mut sink);
+    notes.input = source.into_kept();
+    match replayed {
         Ok(outcome) => Ok(outcome.status()),
-        Err(fault) => Err(fault_of(sink, fault)),
+        Err(fault) => Err(fault_of(sink, fault, notes)),
     }
 }
 
@@ -181,11 +187,13 @@ fn explore(
 ) -> Result<u8, Fault>
     requires { 1 ≤ exploring.now.limit }
 {
-    let mut source = input(rt, path, &mut notes.input)?;
-    let mut sink = output(rt, json, &mut notes.unwritten);
-    match explore_script(rt.alloc(), exploring, &mut source, &mut sink, progress) {
+    let mut source = input(rt, path, notes)?;
+    let mut sink = output(rt, json);
+    let explored = explore_script(rt.alloc(), exploring, &mut source, &mut sink, progress);
+    notes.input = source.into_kept();
+    match explored {
         Ok(outcome) => Ok(outcome.status()),
-        Err(fault) => Err(fault_of(sink, fault)),
+        Err(fault) => Err(fault_of(sink, fault, notes)),
     }
 }
 
@@ -197,11 +205,13 @@ fn judge(
     json: bool,
     notes: &mut Notes,
 ) -> Result<u8, Fault> {
-    let mut source = input(rt, path, &mut notes.input)?;
-    let mut sink = output(rt, json, &mut notes.unwritten);
-    match judge_history(rt.alloc(), judging, &mut source, &mut sink) {
+    let mut source = input(rt, path, notes)?;
+    let mut sink = output(rt, json);
+    let judged = judge_history(rt.alloc(), judging, &mut source, &mut sink);
+    notes.input = source.into_kept();
+    match judged {
         Ok(outcome) => status_of(outcome),
-        Err(fault) => Err(fault_of(sink, fault)),
+        Err(fault) => Err(fault_of(sink, fault, notes)),
     }
 }
 

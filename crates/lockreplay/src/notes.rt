@@ -3,7 +3,7 @@ use crate::faults::Fault;
 use diagnosis::{Language, Text, told_of, told_of_headers, told_of_illegal};
 use history_run::HistoryFault;
 use range_core::Memory;
-use replay_core::RunFault;
+use replay_core::{DeviceFault, RunFault, Source};
 use script_core::ScriptFault;
 use std::alloc::Global;
 use std::io::{Error as IoError, Read, Result as IoResult, Write};
@@ -21,8 +21,10 @@ const STANDARD_OUTPUT: &str = "<stdout>";
 pub struct Notes {
     /// What is read.
     pub language: Language,
+    /// The name of the file.
+    name: String,
     /// What was read.
-    pub input: InputNotes,
+    pub input: Kept,
     /// Why a write failed.
     pub unwritten: Option<IoError>,
 }
@@ -32,15 +34,24 @@ impl Notes {
     pub fn new(alloc: Global) -> Notes {
         Notes {
             language: Language::Script,
-            input: InputNotes {
-                asked: false,
-                name: String::new(alloc),
-                kept: Vec::new(alloc),
-                is_whole: true,
-                unread: None,
-            },
+            name: String::new(alloc),
+            input: Kept::new(alloc, false),
             unwritten: None,
         }
+    }
+
+    /// The file is opened whose path this is, or standard input; what is read is to be kept, where it is asked for.
+    pub fn open(&mut self, path: Option<&str>) -> Result<bool, Memory> {
+        if self.input.asked {
+            self.name.push_str(path.unwrap_or(STANDARD_INPUT))?;
+        }
+        Ok(self.input.asked)
+    }
+
+    /// The file couldn't be opened for this reason, which it hands back.
+    pub fn fail(&mut self, error: IoError) -> IoError {
+        self.input.unread = Some(error);
+        error
     }
 
     /// What stands behind the line of the fault, or behind an illegal journal's, where it is asked for.
@@ -51,7 +62,7 @@ impl Notes {
             Ok(_) => Ok(None),
             Err(Fault::Run(RunFault::Script(fault))) => self.told_of_script(alloc, *fault),
             Err(Fault::Run(RunFault::Read) | Fault::History(HistoryFault::Read)) => {
-                told_of_error(alloc, &self.input.name, self.input.unread)
+                told_of_error(alloc, &self.name, self.input.unread)
             }
             Err(Fault::Run(RunFault::Write) | Fault::History(HistoryFault::Write)) => {
                 told_of_error(alloc, STANDARD_OUTPUT, self.unwritten)
@@ -60,10 +71,13 @@ impl Notes {
         }
     }
 
-    /// The same of an illegal journal.
+    /// The same of an illegal journal, where it was kept.
     fn told_of_illegal(&self, alloc: Global) -> Result<Option<String>, Memory> {
+        if !self.input.is_whole {
+            return Ok(None);
+        }
         let bytes = self.input.lines();
-        let mut text = told_of_illegal(alloc, &self.input.name, bytes)?;
+        let mut text = told_of_illegal(alloc, &self.name, bytes)?;
         text.push_str(told_of_headers(alloc, bytes)?)?;
         Ok(Some(text))
     }
@@ -72,12 +86,12 @@ impl Notes {
     fn told_of_script(&self, alloc: Global, fault: ScriptFault) -> Result<Option<String>, Memory> {
         let bytes = self.input.lines();
         let text = Text {
-            name: &self.input.name,
+            name: &self.name,
             language: self.language,
             bytes,
         };
         let mut text = told_of(alloc, text, fault)?;
-        if self.language == Language::Journal {
+        if self.language == Language::Journal && self.input.is_whole {
             text.push_str(told_of_headers(alloc, bytes)?)?;
         }
         Ok(Some(text))
@@ -100,34 +114,28 @@ fn told_of_error(
     }
 }
 
-/// What was read of a file.
+/// What was read.
 #[derive(Drop)]
-pub struct InputNotes {
+pub struct Kept {
     /// Whether anything is told behind the line of a fault. Else nothing is kept.
     pub asked: bool,
-    /// Its name.
-    name: String,
     /// The bytes, at most [`KEPT_MAX`].
-    kept: Vec<u8>,
+    bytes: Vec<u8>,
     /// Whether these are all that was read.
     is_whole: bool,
     /// Why it couldn't be opened or read.
     unread: Option<IoError>,
 }
 
-impl InputNotes {
-    /// The file is opened whose path this is, or standard input.
-    pub fn open(&mut self, path: Option<&str>) -> Result<(), Memory> {
-        if self.asked {
-            self.name.push_str(path.unwrap_or(STANDARD_INPUT))?;
+impl Kept {
+    /// Nothing was read. It is to be kept, where that is asked for.
+    pub fn new(alloc: Global, asked: bool) -> Kept {
+        Kept {
+            asked,
+            bytes: Vec::new(alloc),
+            is_whole: true,
+            unread: None,
         }
-        Ok(())
-    }
-
-    /// It couldn't be opened or read for this reason, which it hands back.
-    pub fn fail(&mut self, error: IoError) -> IoError {
-        self.unread = Some(error);
-        error
     }
 
     /// Keeps these bytes, which were read, where that is asked for; from the first that aren't kept on, none is.
@@ -135,8 +143,8 @@ impl InputNotes {
         if !self.asked {
             return;
         }
-        if self.is_whole && bytes.len() <= KEPT_MAX.saturating_sub(self.kept.len()) {
-            self.is_whole = self.kept.extend_from_slice(bytes).is_ok();
+        if self.is_whole && bytes.len() <= KEPT_MAX.saturating_sub(self.bytes.len()) {
+            self.is_whole = self.bytes.extend_from_slice(bytes).is_ok();
         } else {
             self.is_whole = false;
         }
@@ -145,52 +153,100 @@ impl InputNotes {
     /// The bytes of the lines that were kept whole.
     fn lines(&self) -> &[u8] {
         if self.is_whole {
-            return &self.kept;
+            return &self.bytes;
         }
-        let end = self.kept.iter().rposition(|byte| *byte == b'\n');
-        &self.kept[..end.map_or(0, |end| end + 1)]
+        match self.bytes.iter().rposition(|byte| *byte == b'\n') {
+            Some(end) => self.bytes.get(..end).unwrap_or(&[]),
+            None => &[],
+        }
     }
 }
 
-/// Hands on what a reader gives, and notes it.
+/// A reader as a source, as [`replay_core::FromReader`] is, that keeps what it gives.
 #[derive(Drop)]
-pub struct Noted<'n, R> {
+pub struct Noted<R> {
     reader: R,
-    input: &'n mut InputNotes,
+    failed: bool,
+    kept: Kept,
 }
 
-impl<'n, R: Read> Noted<'n, R> {
-    /// What this reader gives.
-    pub fn new(reader: R, input: &'n mut InputNotes) -> Noted<'n, R> {
-        Noted { reader, input }
+impl<R: Read> Noted<R> {
+    /// A source of the bytes that the reader has left.
+    pub fn new(reader: R, kept: Kept) -> Noted<R> {
+        Noted {
+            reader,
+            failed: false,
+            kept,
+        }
+    }
+
+    /// What was read.
+    pub fn into_kept(self) -> Kept
+    where
+        R: Drop,
+    {
+        self.kept
     }
 }
 
-impl<R: Read> Read for Noted<'_, R> {
-    ghost remaining = { λ noted. R.remaining noted.reader };
+impl<R: Read> Source for Noted<R> {
+    ghost remaining = { λ source. R.remaining source.reader };
 
-    fn read(&mut self, room: &mut [u8]) -> IoResult<usize> {
+    ghost failed = { λ source. source.failed };
+
+    // It doesn't count.
+    ghost calls = { λ source. 0 };
+
+    fn read_byte(&mut self) -> Result<Option<u8>, DeviceFault> {
+        let mut byte = [0];
+        match self.reader.read(&mut byte) {
+            Ok(0) => Ok(None),
+            Ok(_) => {
+                self.kept.keep(&byte);
+                Ok(Some(byte[0]))
+            }
+            Err(error) => {
+                self.kept.unread = Some(error);
+                self.failed = true;
+                Err(DeviceFault)
+            }
+        }
+    }
+
+    fn read_some(&mut self, room: &mut [u8]) -> Result<usize, DeviceFault> {
         match self.reader.read(room) {
             Ok(count) => {
-                self.input.keep(&room[..count]);
+                self.kept.keep(&room[..count]);
                 Ok(count)
             }
-            Err(error) => Err(self.input.fail(error)),
+            Err(error) => {
+                self.kept.unread = Some(error);
+                self.failed = true;
+                Err(DeviceFault)
+            }
         }
     }
 }
 
 /// Hands on what is written, and notes why a write failed.
 #[derive(Drop)]
-pub struct Writing<'n, W> {
+pub struct Writing<W> {
     writer: W,
-    unwritten: &'n mut Option<IoError>,
+    unwritten: Option<IoError>,
 }
 
-impl<'n, W: Write> Writing<'n, W> {
+impl<W: Write> Writing<W> {
     /// What goes to this writer.
-    pub fn new(writer: W, unwritten: &'n mut Option<IoError>) -> Writing<'n, W> {
-        Writing { writer, unwritten }
+    pub fn new(writer: W) -> Writing<W> {
+        Writing {
+            writer,
+            unwritten: None,
+        }
+    }
+
+    /// Why a write failed, if one did.
+    pub fn unwritten(&self) -> Option<IoError> {
+        self.unwritten
     }
 
     /// The writer.
@@ -199,14 +255,14 @@ impl<'n, W: Write> Writing<'n, W> {
     }
 }
 
-impl<W: Write> Write for Writing<'_, W> {
+impl<W: Write> Write for Writing<W> {
     ghost contents = { λ writing. W.contents writing.writer };
 
     fn write(&mut self, bytes: &[u8]) -> IoResult<usize> {
         match self.writer.write(bytes) {
             Ok(count) => Ok(count),
             Err(error) => {
-                *self.unwritten = Some(error);
+                self.unwritten = Some(error);
                 Err(error)
             }
         }
