@@ -36,6 +36,8 @@ test:
 	sh tests/command-line.sh $(PROGRAM).by-rattle
 	sh tests/lines.sh $(PROGRAM)
 	sh tests/lines.sh $(PROGRAM).by-rattle
+	sh tests/diagnose.sh $(PROGRAM)
+	sh tests/diagnose.sh $(PROGRAM).by-rattle
 	sh tests/worked-scripts.sh $(PROGRAM)
 	sh tests/worked-scripts.sh $(PROGRAM).by-rattle
 	sh tests/run-threads.sh $(PROGRAM) 20 $(WORKED)

@@ -11,16 +11,19 @@ mod explore_line;
 mod faults;
 mod given_words;
 mod history_line;
+mod notes;
 mod options;
 mod progress;
 
 use devices::{draw, fault_of, fault_of_picture, input, output, picture};
+use diagnosis::Language;
 use explore_line::explore_options;
 use explore_run::{Exploring, Watch, explore_script};
 use faults::Fault;
 use given_words::{asks_for, take_flag};
 use history_check::{HistoryOutcome, Judging};
 use history_run::judge_history;
+use notes::Notes;
 use options::{judged_detail, path_of, run_failures_of};
 use progress::Progress;
 use range_core::Memory;
@@ -35,14 +38,19 @@ use std::sync::Wait;
 use std::thread::Threads;
 use std::time::Clock;
 
-/// A fault is told on standard error, and its status is the program's.
+/// A fault is told on standard error, behind it what `--diagnose` asks for, and its status is the program's.
 fn main(rt: HostRuntime) -> ExitCode {
-    match run(&rt, rt.stderr()) {
+    let mut notes = Notes::new(rt.alloc());
+    let ended = run(&rt, rt.stderr(), &mut notes);
+    if let Err(fault) = &ended {
+        let _ = eprint!(rt; "{fault}");
+    }
+    if let Ok(Some(told)) = notes.told(rt.alloc(), &ended) {
+        let _ = eprint!(rt; "{told}");
+    }
+    match ended {
         Ok(status) => ExitCode::from(status),
-        Err(fault) => {
-            let _ = eprint!(rt; "{fault}");
-            ExitCode::from(fault.status())
-        }
+        Err(fault) => ExitCode::from(fault.status()),
     }
 }
 
@@ -50,6 +58,7 @@ fn main(rt: HostRuntime) -> ExitCode {
 fn run(
     rt: &(impl AllocGlobal + Clock + Env + Files + Input + Print + Sync + Threads + Wait),
     stderr: Stderr,
+    notes: &mut Notes,
 ) -> Result<u8, Fault> {
     let mut words: Vec<String> = env::args(rt)
         .map_err(Fault::of_input)?
@@ -57,6 +66,7 @@ fn run(
         .map_err(Memory::from)
         .map_err(RunFault::Memory)?;
     let json = take_flag(&mut words, "--json");
+    notes.input.asked = take_flag(&mut words, "--diagnose");
     if asks_for(&words, "--explore") {
         let options = explore_options(rt.alloc(), &words).map_err(Fault::of_command_line)?;
         let exploring = options.exploring(rt.alloc())?;
@@ -66,15 +76,17 @@ fn run(
             &exploring,
             path_of(options.file),
             json,
+            notes,
         )
     } else if asks_for(&words, "--history") {
         let options = history_line::history_options(rt.alloc(), &words).map_err(
             Fault::of_command_line,
         )?;
         let judging = options.judging().map_err(Fault::Misuse)?;
-        judge(rt, judging, path_of(options.file), json)
+        notes.language = Language::History;
+        judge(rt, judging, path_of(options.file), json, notes)
     } else {
-        run_once(rt, words, json)
+        run_once(rt, words, json, notes)
     }
 }
 
@@ -83,22 +95,26 @@ fn run_once(
     rt: &(impl AllocGlobal + Clock + Files + Input + Print + Sync + Threads + Wait),
     mut words: Vec<String>,
     json: bool,
+    notes: &mut Notes,
 ) -> Result<u8, Fault> {
     let timeline = take_flag(&mut words, "--timeline");
     let options = command_line::options(rt.alloc(), &words).map_err(Fault::of_command_line)?;
     let path = path_of(options.file);
     if timeline {
         let job = options.drawn_job(json).map_err(Fault::Misuse)?;
-        return replay_drawn(rt, job, path);
+        return replay_drawn(rt, job, path, notes);
     }
     let job = options.job().map_err(Fault::Misuse)?;
+    if job == Job::Check {
+        notes.language = Language::Journal;
+    }
     match options.fail_on {
         Some(list) => {
             let detail = judged_detail(job).map_err(Fault::Misuse)?;
             let fail_on = run_failures_of(rt.alloc(), list)?;
-            replay_failing(rt, detail, &fail_on, path, json)
+            replay_failing(rt, detail, &fail_on, path, json, notes)
         }
-        None => replay(rt, job, path, json),
+        None => replay(rt, job, path, json, notes),
     }
 }
 
@@ -108,12 +124,15 @@ fn replay(
     job: Job,
     path: Option<&str>,
     json: bool,
+    notes: &mut Notes,
 ) -> Result<u8, Fault> {
-    let mut source = input(rt, path)?;
+    let mut source = input(rt, path, notes)?;
     let mut sink = output(rt, json);
-    match perform(rt, job, &mut source, &mut sink) {
+    let performed = perform(rt, job, &mut source, &mut sink);
+    notes.input = source.into_kept();
+    match performed {
         Ok(outcome) => Ok(outcome.status()),
-        Err(fault) => Err(fault_of(sink, fault)),
+        Err(fault) => Err(fault_of(sink, fault, notes)),
     }
 }
 
@@ -122,12 +141,15 @@ fn replay_drawn(
     rt: &(impl AllocGlobal + Clock + Files + Input + Print + Sync + Threads + Wait),
     job: Job,
     path: Option<&str>,
+    notes: &mut Notes,
 ) -> Result<u8, Fault> {
-    let mut source = input(rt, path)?;
+    let mut source = input(rt, path, notes)?;
     let mut lines = picture(rt);
-    match perform(rt, job, &mut source, &mut lines) {
+    let performed = perform(rt, job, &mut source, &mut lines);
+    notes.input = source.into_kept();
+    match performed {
         Ok(outcome) => {
-            draw(rt, lines)?;
+            draw(rt, lines, notes)?;
             Ok(outcome.status())
         }
         Err(fault) => Err(fault_of_picture(lines, fault)),
@@ -142,12 +164,15 @@ fn replay_failing(
     fail_on: &[RunFinding],
     path: Option<&str>,
     json: bool,
+    notes: &mut Notes,
 ) -> Result<u8, Fault> {
-    let mut source = input(rt, path)?;
+    let mut source = input(rt, path, notes)?;
     let mut sink = output(rt, json);
-    match replay_judged(rt.alloc(), detail, fail_on, &mut source, &mut sink) {
+    let replayed = replay_judged(rt.alloc(), detail, fail_on, &mut source, &mut sink);
+    notes.input = source.into_kept();
+    match replayed {
         Ok(outcome) => Ok(outcome.status()),
-        Err(fault) => Err(fault_of(sink, fault)),
+        Err(fault) => Err(fault_of(sink, fault, notes)),
     }
 }
 
@@ -158,14 +183,17 @@ fn explore(
     exploring: &Exploring,
     path: Option<&str>,
     json: bool,
+    notes: &mut Notes,
 ) -> Result<u8, Fault>
     requires { 1 ≤ exploring.now.limit }
 {
-    let mut source = input(rt, path)?;
+    let mut source = input(rt, path, notes)?;
     let mut sink = output(rt, json);
-    match explore_script(rt, rt.alloc(), exploring, &mut source, &mut sink, progress) {
+    let explored = explore_script(rt, rt.alloc(), exploring, &mut source, &mut sink, progress);
+    notes.input = source.into_kept();
+    match explored {
         Ok(outcome) => Ok(outcome.status()),
-        Err(fault) => Err(fault_of(sink, fault)),
+        Err(fault) => Err(fault_of(sink, fault, notes)),
     }
 }
 
@@ -175,12 +203,15 @@ fn judge(
     judging: Judging,
     path: Option<&str>,
     json: bool,
+    notes: &mut Notes,
 ) -> Result<u8, Fault> {
-    let mut source = input(rt, path)?;
+    let mut source = input(rt, path, notes)?;
     let mut sink = output(rt, json);
-    match judge_history(rt.alloc(), judging, &mut source, &mut sink) {
+    let judged = judge_history(rt.alloc(), judging, &mut source, &mut sink);
+    notes.input = source.into_kept();
+    match judged {
         Ok(outcome) => status_of(outcome),
-        Err(fault) => Err(fault_of(sink, fault)),
+        Err(fault) => Err(fault_of(sink, fault, notes)),
     }
 }
 

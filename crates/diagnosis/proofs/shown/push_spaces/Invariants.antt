@@ -1,0 +1,5 @@
+use Rattle.std.proofs.Common.{◌≡◌, ◌++◌, string_bytes, replicate}
+use Rattle.diagnosis.proofs.shown.push_spaces.Given as goal
+
+abbrev pub invariant-loop : goal.invariant-loop
+invariant-loop l = string_bytes l.text ≡ string_bytes l.initial.text ++ replicate l.counter 32
