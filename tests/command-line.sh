@@ -157,7 +157,6 @@ check 0 empty empty empty --expect conversion
 check 0 empty empty conversion --expect empty
 check 3 unmet.out empty empty unmet --expect
 check 3 unmet.out empty unmet --expect -
-check 3 unmet.json empty empty --json --expect unmet
 check 0 unmet.run empty empty unmet
 check 2 empty other-form.err empty --expect other-form
 check 2 empty faulty.err empty --expect faulty

@@ -118,11 +118,11 @@ wanted_by NoLine text = codes "no " ++ text
 abbrev pub wanted_text : Expected → List ℕ
 wanted_text expected = wanted_by expected.wanted expected.text
 
--- the line that tells of the expectation in the line with this number that it isn't met
-abbrev pub unmet_line : ℕ → Expected → List Event → List ℕ
-unmet_line number expected journal =
-    codes "line " ++ decimal number ++ codes ": " ++ seen_in expected journal ++ codes ", expected " ++ wanted_text expected ++ 10 ∷ []
+-- the line that tells that this was seen, and not what the line with this number expects
+abbrev pub unmet_line : ℕ → List ℕ → Expected → List ℕ
+unmet_line number seen expected =
+    codes "line " ++ decimal number ++ codes ": " ++ seen ++ codes ", expected " ++ wanted_text expected ++ 10 ∷ []
 
--- what is told of it, by a run with this journal and this report: nothing where it is met
+-- what is told of what the line with this number expects, by a run with this journal and this report: nothing where it is met
 abbrev pub told_of : ℕ → Expected → List Event → List ℕ → List ℕ
-told_of number expected journal report = if is_met expected journal report then [] else unmet_line number expected journal
+told_of number expected journal report = if is_met expected journal report then [] else unmet_line number (seen_in expected journal) expected

@@ -75,8 +75,8 @@ fn form_of<'w, 'a>(limits: Limits, words: &'w [&'a str]) -> Option<(Wanted, &'w 
     if begins_report_line(words) {
         return Some((Wanted::Line, words));
     }
-    if *first == "no" {
-        return begins_report_line(behind).then_some((Wanted::NoLine, behind));
+    if *first == "no" && begins_report_line(behind) {
+        return Some((Wanted::NoLine, behind));
     }
     if behind.is_empty() {
         return None;

@@ -1,6 +1,14 @@
 //! What is told of the expectations of a script.
+ghost use Rattle.std.specs.Prelude.{◌≡◌, ◌≤◌, ◌++◌, [], ℕ, List, Ok, IfOk, OnOk, IfErr, IsTrue, length};
+ghost use Rattle.script_core.specs.declared.TheConstants.{SCRIPT_MAX};
+ghost use Rattle.script_core.specs.ScriptText.{Meaning};
+ghost use Rattle.script_core.specs.Words.{lines_of};
+ghost use Rattle.script_core.specs.Reading.{Reads};
+ghost use Rattle.expectations.specs.Expectations.{is_expectation, unmet_line};
+ghost use Rattle.expectations.specs.Judging.{IsFaultAt, IsToldFault, TellsExpectation, TellsLine, TellsLines};
+
 use crate::expectation::{Expectation, expects, words_of};
-use crate::run::{report_of, session_of};
+use crate::run::run_of;
 use crate::seen::{first_line, seen};
 use crate::text::{push_bytes, push_numbered, push_str, push_wanted};
 use range_core::Memory;
@@ -9,7 +17,10 @@ use script_core::{Cause, SCRIPT_MAX, ScriptFault, printable_text};
 use std::alloc::Global;
 
 /// What is told of the expectations of a script of these bytes: of each that isn't met a line, in order.
-pub fn told_text(alloc: Global, bytes: &[u8]) -> Result<Vec<u8>, RunFault> {
+pub fn told_text(alloc: Global, bytes: &[u8]) -> Result<Vec<u8>, RunFault>
+    ensures told { IfOk result (λ text. (script : Meaning) × Reads bytes.now (Ok script) × TellsLines [] (lines_of bytes.now) text.items) }
+    ensures fault { IfErr result (IsToldFault bytes.now) }
+{
     if bytes.len() > SCRIPT_MAX {
         return Err(RunFault::Script(ScriptFault {
             line: 0,
@@ -21,10 +32,10 @@ pub fn told_text(alloc: Global, bytes: &[u8]) -> Result<Vec<u8>, RunFault> {
     let mut number = 0;
     while !rest.is_empty() {
         let (line, behind) = first_line(rest);
+        let script = &bytes[..bytes.len() - behind.len()];
         number += 1;
-        rest = behind;
-        let script = &bytes[..bytes.len() - rest.len()];
         push_line(alloc, &mut told, script, number, line)?;
+        rest = behind;
     }
     parse_script(alloc, bytes)?;
     Ok(told)
@@ -37,7 +48,11 @@ fn push_line(
     bytes: &[u8],
     number: u64,
     line: &[u8],
-) -> Result<(), RunFault> {
+) -> Result<(), RunFault>
+    requires { number ≡ length (lines_of bytes.now) }
+    ensures told { OnOk result ((own : List ℕ) × TellsLine (lines_of bytes.now) line.now own × (told.new.items ≡ told.old.items ++ own)) }
+    ensures fault { IfErr result (IsFaultAt bytes.now line.now number) }
+{
     match printable_text(line) {
         Some(text) if expects(text) => push_expectation(alloc, told, bytes, number, text),
         _ => Ok(()),
@@ -51,7 +66,12 @@ fn push_expectation(
     bytes: &[u8],
     number: u64,
     line: &str,
-) -> Result<(), RunFault> {
+) -> Result<(), RunFault>
+    requires number { number ≡ length (lines_of bytes.now) }
+    requires is { IsTrue (is_expectation line.now) }
+    ensures told { OnOk result ((own : List ℕ) × TellsExpectation (lines_of bytes.now) line.now own × (told.new.items ≡ told.old.items ++ own)) }
+    ensures fault { IfErr result (IsFaultAt bytes.now line.now number) }
+{
     let script = parse_script(alloc, bytes)?;
     let words = words_of(alloc, line)?;
     let Some(expectation) = Expectation::of_words(alloc, script.rules.limits, &words[2..])? else {
@@ -60,21 +80,22 @@ fn push_expectation(
             cause: Cause::Word,
         }));
     };
-    let session = session_of(alloc, &script)?;
-    let report = report_of(alloc, &script, &session)?;
-    if let Some(seen) = seen(alloc, &expectation, session.journal(), &report)? {
+    let run = run_of(alloc, &script)?;
+    if let Some(seen) = seen(alloc, &expectation, run.session.journal(), &run.report)? {
         push_unmet(told, number, &seen, &expectation)?;
     }
     Ok(())
 }
 
-/// Appends what was seen in place of the expectation in the line with this number.
+/// Appends that this was seen, and not what the line with this number expects.
 fn push_unmet(
     told: &mut Vec<u8>,
     number: u64,
     seen: &[u8],
     expectation: &Expectation,
-) -> Result<(), Memory> {
+) -> Result<(), Memory>
+    ensures { OnOk result (told.new.items ≡ told.old.items ++ unmet_line number seen.now expectation.now) }
+{
     push_numbered(told, "line ", number)?;
     push_str(told, ": ")?;
     push_bytes(told, seen)?;

@@ -1,10 +1,10 @@
 //! What is seen of a run in place of what is expected.
-ghost use Rattle.std.specs.Prelude.{◌≡◌, ◌<◌, true, false, filter, IfOk, MatchOption, MatchBool, length};
-ghost use Rattle.script_core.specs.Words.{lines_of};
+ghost use Rattle.std.specs.Prelude.{◌≡◌, ◌<◌, true, false, filter, IfOk, MatchOption, bytes_eq, length};
+ghost use Rattle.expectations.specs.FirstLines.{IsFirstLine};
 ghost use Rattle.expectations.specs.Expectations.{has_line as has_line_by, is_about as is_about_by, is_met, last_note as last_note_by, last_of, note_seen, seen_in};
 
 use crate::expectation::{Expectation, Wanted};
-use crate::text::{push_note, push_str};
+use crate::text::push_note;
 use lock_manager::Note;
 use memchr::memchr;
 use range_core::Memory;
@@ -21,22 +21,28 @@ pub fn seen(
     ensures { IfOk result (λ seen. MatchOption seen (is_met expectation.now journal.now report.now ≡ true)
         (λ text. (is_met expectation.now journal.now report.now ≡ false) × (text.items ≡ seen_in expectation.now journal.now))) }
 {
+    let text = expectation.text.as_slice();
+    match expectation.wanted {
+        Wanted::Note { p, n } => seen_of_note(alloc, last_note(journal, p, n), text),
+        Wanted::Line if has_line(report, text) => Ok(None),
+        Wanted::Line => Ok(Some(Vec::from_slice(alloc, b"no such line")?)),
+        Wanted::NoLine if has_line(report, text) => Ok(Some(Vec::from_slice(alloc, text)?)),
+        Wanted::NoLine => Ok(None),
+    }
+}
+
+/// What the last note on a request tells, or that there is none, in place of this text; `None` where it is the text.
+fn seen_of_note(alloc: Global, note: Option<Note>, text: &[u8]) -> Result<Option<Vec<u8>>, Memory>
+    ensures { IfOk result (λ seen. MatchOption seen (bytes_eq (note_seen note) text.now ≡ true)
+        (λ told. (bytes_eq (note_seen note) text.now ≡ false) × (told.items ≡ note_seen note))) }
+{
     let mut seen = Vec::new(alloc);
-    let met = match expectation.wanted {
-        Wanted::Note { p, n } => {
-            push_note(&mut seen, last_note(journal, p, n))?;
-            seen.as_slice() == expectation.text.as_slice()
-        }
-        Wanted::Line => {
-            push_str(&mut seen, "no such line")?;
-            has_line(report, &expectation.text)
-        }
-        Wanted::NoLine => {
-            seen.extend_from_slice(&expectation.text)?;
-            !has_line(report, &expectation.text)
-        }
-    };
-    Ok(if met { None } else { Some(seen) })
+    push_note(&mut seen, note)?;
+    Ok(if seen.as_slice() == text {
+        None
+    } else {
+        Some(seen)
+    })
 }
 
 /// The last note on request number `n` of process `p` in these entries.
@@ -71,7 +77,9 @@ fn is_about(note: &Note, p: u8, n: u64) -> bool
 {
     match note {
         Note::Answer {
-            p: to, n: number, ..
+            p: to,
+            n: number,
+            ..
         }
         | Note::Waits { p: to, n: number } => *to == p && *number == n,
     }
@@ -95,8 +103,7 @@ fn has_line(text: &[u8], line: &[u8]) -> bool
 /// The first line, and what stands behind its line feed.
 pub fn first_line(bytes: &[u8]) -> (&[u8], &[u8])
     requires { 0 < length bytes.now }
-    ensures lines { lines_of bytes.now ≡ result.0.now ∷ lines_of result.1.now }
-    ensures shorter { length result.1.now < length bytes.now }
+    ensures { IsFirstLine bytes.now result.0.now result.1.now }
 {
     match memchr(b'\n', bytes) {
         Some(end) => (&bytes[..end], &bytes[end + 1..]),
