@@ -1,0 +1,4 @@
+pub mod LineLemmas
+pub mod WayLemmas
+pub mod NoteLemmas
+pub mod WordLemmas

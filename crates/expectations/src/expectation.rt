@@ -113,6 +113,7 @@ fn tag_of(limits: Limits, word: &str) -> Option<(u8, u64)>
 }
 
 /// The process of these limits that the word is the number of.
+#[tactic(auto, using(script_core::proofs::NumberLemmas::one_number, script_core::proofs::ReadingLemmas::small_process))]
 fn process_of(limits: Limits, word: &str) -> Option<u8>
     ensures { MatchOption result ((p : ℕ) → ¬ (IsProcess limits p × (word.now ≡ decimal p))) (λ p. IsProcess limits p × (word.now ≡ decimal p)) }
 {
@@ -126,11 +127,11 @@ fn process_of(limits: Limits, word: &str) -> Option<u8>
 fn joined(alloc: Global, words: &[&str]) -> Result<Vec<u8>, Memory>
     ensures { IfOk result (λ text. text.items ≡ join_with_byte 32 (texts words.now)) }
 {
-    let mut text = Vec::new(alloc);
-    if let [first, behind @ ..] = words {
-        text.extend_from_slice(first.as_bytes())?;
-        push_words(&mut text, behind)?;
-    }
+    let [first, behind @ ..] = words else {
+        return Ok(Vec::new(alloc));
+    };
+    let mut text = Vec::from_slice(alloc, first.as_bytes())?;
+    push_words(&mut text, behind)?;
     Ok(text)
 }
 

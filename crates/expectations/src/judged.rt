@@ -81,10 +81,10 @@ fn push_expectation(
         }));
     };
     let run = run_of(alloc, &script)?;
-    if let Some(seen) = seen(alloc, &expectation, run.session.journal(), &run.report)? {
-        push_unmet(told, number, &seen, &expectation)?;
+    match seen(alloc, &expectation, run.session.journal(), &run.report)? {
+        Some(seen) => Ok(push_unmet(told, number, &seen, &expectation)?),
+        None => Ok(()),
     }
-    Ok(())
 }
 
 /// Appends that this was seen, and not what the line with this number expects.
