@@ -113,3 +113,8 @@ line_found bytes first behind line is same =
 -- no bytes have no line
 pub no_line : (bytes line : List ℕ) → bytes ≡ [] → has_line bytes line ≡ false
 no_line bytes line none = ap (λ (l : List ℕ). has_line l line) none
+
+-- a list without elements is empty
+pub empty_list : (bytes : List ℕ) → length bytes ≡ 0 → bytes ≡ []
+empty_list [] none = refl
+empty_list (byte ∷ bytes) none = absurd (omega arith)

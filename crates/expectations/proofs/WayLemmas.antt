@@ -11,9 +11,12 @@ use Rattle.script_core.specs.ScriptText.{Meaning}
 use Rattle.script_core.specs.Words.{lines_of, script_limit}
 use Rattle.script_core.specs.Reading.{LinesGive, Reading, Reads, reading_after, start}
 use Rattle.script_core.proofs.ReadingLemmas.{one_reading}
+use Rattle.replay_core.specs.declared.replays.RunFault.{RunFault}
+use Rattle.replay_core.specs.declared.replays.RunFault.TheVariants as faults
+use Rattle.replay_core.specs.Faults.{IsOutputFault}
 use Rattle.expectations.specs.FirstLines.{IsFirstLine}
 use Rattle.expectations.specs.Expectations.{Says, is_expectation, words_behind}
-use Rattle.expectations.specs.Judging.{AreScript, TellsExpectation, TellsLine, TellsLines, IsFaulty, IsFaultOfForm, NoneFaultyBefore, IsFirstFault}
+use Rattle.expectations.specs.Judging.{AreScript, TellsExpectation, TellsLine, TellsLines, IsFaulty, IsFaultOfForm, NoneFaultyBefore, IsFirstFault, IsFaultAt, IsToldFault}
 use Rattle.expectations.proofs.LineLemmas.{Piece, piece_of}
 
 -- ---- readings of some lines
@@ -262,3 +265,26 @@ too_long bytes long = record {
   is_fault = inl (subst (GivesBy bytes (Err length_fault)) (sym (lt-ltb script_limit (length bytes) long)) refl);
   first = λ before line behind lines less. absurd (omega (arith, less));
 }
+
+-- ---- the faults of `told_text`
+
+-- of a line that was looked at
+pub line_fault : (bytes rest told : List ℕ) (number : ℕ) (line behind script : List ℕ) (fault : RunFault) (way : Way bytes rest told number)
+    → IsFirstLine rest line behind → length bytes ≤ script_limit → length script ≤ script_limit → lines_of script ≡ way.done ++ line ∷ []
+    → IsFaultAt script line (number + 1) fault → IsToldFault bytes fault
+line_fault bytes rest told number line behind script (faults.Script fault) way first fits short are (inl reads) =
+    way_fault bytes rest told number line behind script fault way first fits short are reads
+line_fault bytes rest told number line behind script (faults.Script fault) way first fits short are (inr form) =
+    way_form bytes rest told number line behind fault way first fits (subst (λ (l : List (List ℕ)). IsFaulty l line) are form.0) form.1
+line_fault bytes rest told number line behind script (faults.Memory memory) way first fits short are at = tt
+line_fault bytes rest told number line behind script faults.Read way first fits short are at = at
+line_fault bytes rest told number line behind script faults.Write way first fits short are at = at
+line_fault bytes rest told number line behind script faults.Thread way first fits short are at = at
+
+-- of the whole script, where all lines were judged
+pub end_fault : (bytes told : List ℕ) (number : ℕ) (fault : RunFault) → Way bytes [] told number → IsOutputFault bytes fault → IsToldFault bytes fault
+end_fault bytes told number (faults.Script fault) way reads = way_reads bytes told number fault way reads
+end_fault bytes told number (faults.Memory memory) way at = tt
+end_fault bytes told number faults.Read way at = at
+end_fault bytes told number faults.Write way at = at
+end_fault bytes told number faults.Thread way at = at

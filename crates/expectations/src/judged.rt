@@ -19,6 +19,7 @@ use std::alloc::Global;
 /// What is told of the expectations of a script of these bytes: of each that isn't met a line, in order.
 pub fn told_text(alloc: Global, bytes: &[u8]) -> Result<Vec<u8>, RunFault>
     ensures told { IfOk result (λ text. (script : Meaning) × Reads bytes.now (Ok script) × TellsLines [] (lines_of bytes.now) text.items) }
+    ensures short { OnOk result (length bytes.now ≤ SCRIPT_MAX) }
     ensures fault { IfErr result (IsToldFault bytes.now) }
 {
     if bytes.len() > SCRIPT_MAX {
