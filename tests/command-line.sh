@@ -148,6 +148,24 @@ check 2 empty timeline.err empty --timeline --json state
 check 2 empty timeline.err empty --check --timeline state
 check 2 empty timeline.err empty --timeline --state all state
 check 2 empty timeline.err empty --fail-on busy --timeline state
+
+# What a script expects: nothing is printed where all of it is met, or there is none; else a line for each expectation that isn't, and no run.
+# To a replay these lines are comments. An expectation in another form is a fault, unless a faulty line stands before it.
+check 0 empty empty empty --expect expected
+check 0 empty empty expected --expect
+check 0 empty empty empty --expect conversion
+check 0 empty empty conversion --expect empty
+check 3 unmet.out empty empty unmet --expect
+check 3 unmet.out empty unmet --expect -
+check 0 unmet.run empty empty unmet
+check 2 empty other-form.err empty --expect other-form
+check 2 empty faulty.err empty --expect faulty
+check 2 empty faulty.err empty --expect faulty-before
+check 1 empty read-failed.err empty --expect missing
+check 2 empty two-files.err empty --expect unmet unmet
+for flag in --threads --explain --check --timeline --state=1 --fail-on=busy; do check 2 empty expect.err empty --expect "$flag" missing; done
+check 2 empty expect-explore.err empty --explore --expect missing
+check 2 empty expect-explore.err empty --expect --history missing
 check 0 changes.out empty empty --state changes changes
 check 0 changes.out empty changes --explain --state=changes
 check 0 changes.one empty empty --threads --state changes changes-of-one

@@ -42,3 +42,14 @@ IsDrawnJobOf false threads false false (Some word) list job = job ≡ Err misuse
 IsDrawnJobOf false threads false true state list job = job ≡ Err misuses.Timeline
 IsDrawnJobOf false threads true check state list job = job ≡ Err misuses.Timeline
 IsDrawnJobOf true threads explain check state list job = job ≡ Err misuses.Timeline
+
+-- --expect beside --timeline, --threads, --explain and --check, each given or not, and the words behind --state and --fail-on, if they are given:
+-- it stands beside none of them
+abbrev pub IsExpecting : Bool → Bool → Bool → Bool → Option (List ℕ) → Option (List ℕ) → Result (Unit {0}) Misuse → Type 0
+IsExpecting false false false false None None told = told ≡ Ok tt
+IsExpecting false false false false None (Some list) told = told ≡ Err misuses.Expect
+IsExpecting false false false false (Some word) list told = told ≡ Err misuses.Expect
+IsExpecting false false false true state list told = told ≡ Err misuses.Expect
+IsExpecting false false true check state list told = told ≡ Err misuses.Expect
+IsExpecting false true explain check state list told = told ≡ Err misuses.Expect
+IsExpecting true threads explain check state list told = told ≡ Err misuses.Expect

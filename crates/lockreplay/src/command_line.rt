@@ -147,6 +147,7 @@ I test my locking protocol:
     another than busy, interrupted and killed is possible, or one of LIST.
   lockreplay [--explain] --fail-on LIST [FILE]
     Takes them in the script's order alone. LIST may name badfd, too: EBADF.
+  lockreplay --expect [FILE]            judges its lines # expect 1#2 EAGAIN
 
 I write a file server, or test one:
   lockreplay --check [FILE]             a log in its order, as a run is printed

@@ -1,5 +1,5 @@
 //! Replays a script of requests to the lock manager: prints each event, also what explains it, and then what is held. Or searches every
-//! order of its requests. Or checks such a journal. Or judges a concurrent history of locks.
+//! order of its requests. Or judges what the script expects. Or checks such a journal. Or judges a concurrent history of locks.
 #![tactic(auto)]
 
 ghost use Rattle.std.specs.Prelude.{◌≤◌};
@@ -17,6 +17,7 @@ mod progress;
 
 use devices::{draw, fault_of, fault_of_picture, input, output, picture};
 use diagnosis::Language;
+use expectations::judge_expectations;
 use explore_line::explore_options;
 use explore_run::{Exploring, Watch, explore_script};
 use faults::Fault;
@@ -98,8 +99,13 @@ fn run_once(
     notes: &mut Notes,
 ) -> Result<u8, Fault> {
     let timeline = take_flag(&mut words, "--timeline");
+    let expect = take_flag(&mut words, "--expect");
     let options = command_line::options(rt.alloc(), &words).map_err(Fault::of_command_line)?;
     let path = path_of(options.file);
+    if expect {
+        options.expecting(timeline).map_err(Fault::Misuse)?;
+        return judge_expected(rt, path, json, notes);
+    }
     if timeline {
         let job = options.drawn_job(json).map_err(Fault::Misuse)?;
         return replay_drawn(rt, job, path, notes);
@@ -171,6 +177,23 @@ fn replay_failing(
     let replayed = replay_judged(rt.alloc(), detail, fail_on, &mut source, &mut sink);
     notes.input = source.into_kept();
     match replayed {
+        Ok(outcome) => Ok(outcome.status()),
+        Err(fault) => Err(fault_of(sink, fault, notes)),
+    }
+}
+
+/// Judges the expectations of the script in the file, or on standard input where there is none, and writes what isn't met to standard output.
+fn judge_expected(
+    rt: &(impl AllocGlobal + Files + Input + Print),
+    path: Option<&str>,
+    json: bool,
+    notes: &mut Notes,
+) -> Result<u8, Fault> {
+    let mut source = input(rt, path, notes)?;
+    let mut sink = output(rt, json);
+    let judged = judge_expectations(rt.alloc(), &mut source, &mut sink);
+    notes.input = source.into_kept();
+    match judged {
         Ok(outcome) => Ok(outcome.status()),
         Err(fault) => Err(fault_of(sink, fault, notes)),
     }

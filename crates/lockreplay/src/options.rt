@@ -1,6 +1,6 @@
 //! What a command line asks for.
 ghost use Rattle.std.specs.Prelude.{◌≡◌, ◌≢◌, ◌≤◌, Some, None, IfOk, MatchResult, codes, option_map};
-ghost use Rattle.lockreplay.specs.Jobs.{IsDrawnJobOf, IsJobOf, IsDetailOf};
+ghost use Rattle.lockreplay.specs.Jobs.{IsDetailOf, IsDrawnJobOf, IsExpecting, IsJobOf};
 ghost use Rattle.lockreplay.specs.JudgedRuns.{AreRunFailures, IsJudgedDetail};
 ghost use Rattle.lockreplay.specs.Judgings.{AreStatesAsked, AreStatesOf, IsJudgingOf, IsLimitAsked, IsLimitOf};
 ghost use Rattle.lockreplay.specs.Explorings.{AreFailures, IsExploringFault, IsExploringOf, IsPrintedAsked, IsSituationLimit};
@@ -31,6 +31,9 @@ pub enum Misuse {
     /// `--timeline` beside another flag than `--threads`.
     #[error("error: the argument '--timeline' can only be used with '--threads'\n\nFor more information, try '--help'.\n")]
     Timeline,
+    /// `--expect` beside another flag than `--json`.
+    #[error("error: the argument '--expect' can only be used with '--json'\n\nFor more information, try '--help'.\n")]
+    Expect,
     /// `--fail-on` beside `--threads`: which run is printed is open there.
     #[error("error: the argument '--fail-on <LIST>' cannot be used with '--threads'\n\nFor more information, try '--help'.\n")]
     FailOnThreads,
@@ -102,6 +105,18 @@ impl<'a> Options<'a> {
             (false, false, None, None) => Ok(Job::Replay(detail)),
             (false, true, None, None) => Ok(Job::ReplayInThreads(detail)),
             _ => Err(Misuse::Timeline),
+        }
+    }
+
+    /// Whether a script's expectations may be judged: `--expect` stands beside `--json` alone.
+    pub fn expecting(self, timeline: bool) -> Result<(), Misuse>
+        ensures { IsExpecting timeline self.entry.threads self.entry.explain self.entry.check (option_map (λ word. word.now) self.entry.state)
+            (option_map (λ word. word.now) self.entry.fail_on) result }
+    {
+        let others = timeline || self.threads || self.explain || self.check;
+        match (others, self.state, self.fail_on) {
+            (false, None, None) => Ok(()),
+            _ => Err(Misuse::Expect),
         }
     }
 
