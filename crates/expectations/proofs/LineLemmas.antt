@@ -1,11 +1,10 @@
 -- How bytes begin with a line: for `first_line`, `has_line` and `told_text`.
 use Rattle.std.proofs.lemmas.Grind.{common_steps}
-use Rattle.std.proofs.Common.{◌≡◌, ◌∙◌, ℕ, Option, ◌+◌, ◌-◌, ◌<◌, ◌≤◌, ◌==◌, ◌⊎◌, List, [], ◌∷◌, ◌++◌, length, get_or, take, drop, position, Some, None, Bool, true, false, All, inl, inr, refl, sym, ap, subst, arith, append_assoc, append-nil, add-one, length-append, length-take}
+use Rattle.std.proofs.Common.{◌≡◌, ◌∙◌, ℕ, ◌+◌, ◌<◌, ◌==◌, ◌⊎◌, List, [], ◌∷◌, ◌++◌, length, get_or, take, drop, position, Some, None, Bool, true, false, All, inl, inr, refl, sym, ap, arith, append_assoc, append-nil, add-one, length-append, length-take}
 use Rattle.std.specs.Prelude.{◌||◌, bytes_eq, not}
 use Rattle.std.specs.List.{list_all, list_any}
 use Rattle.std.proofs.Math.Seq.{drop-cons}
 use Rattle.std.proofs.lemmas.List.{get_or-take, take-append-drop}
-use Rattle.std.proofs.lemmas.List.Splits.{slice_split_none}
 use Rattle.std.proofs.lemmas.List.Quantifiers.{position-Some}
 use Rattle.std.proofs.lemmas.List.Sums.{fails_before_first, list_all-from_AllPass}
 use Rattle.memchr.specs.Find.{IsFirstByte}

@@ -15,9 +15,9 @@ use Rattle.replay_core.specs.declared.replays.RunFault.{RunFault}
 use Rattle.replay_core.specs.declared.replays.RunFault.TheVariants as faults
 use Rattle.replay_core.specs.Faults.{IsOutputFault}
 use Rattle.expectations.specs.FirstLines.{IsFirstLine}
-use Rattle.expectations.specs.Expectations.{Says, is_expectation, words_behind}
-use Rattle.expectations.specs.Judging.{AreScript, TellsExpectation, TellsLine, TellsLines, IsFaulty, IsFaultOfForm, NoneFaultyBefore, IsFirstFault, IsFaultAt, IsToldFault}
-use Rattle.expectations.proofs.LineLemmas.{Piece, piece_of}
+use Rattle.expectations.specs.Expectations.{Says, words_behind}
+use Rattle.expectations.specs.Judging.{AreScript, TellsExpectation, TellsLine, TellsLines, IsFaulty, NoneFaultyBefore, IsFirstFault, IsFaultAt, IsToldFault}
+use Rattle.expectations.proofs.LineLemmas.{piece_of}
 
 -- ---- readings of some lines
 

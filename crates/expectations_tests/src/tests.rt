@@ -89,7 +89,12 @@ fn told_of(alloc: Global, script: &[u8]) -> Told {
 
 #[test]
 fn each_is_met(rt: HostRuntime) -> Result<(), Fail> {
-    for script in [CONFLICT, SPACED, b"", b"# expect proc 1 sent 0 taken 0 answered 0 live"] {
+    for script in [
+        CONFLICT,
+        SPACED,
+        b"",
+        b"# expect proc 1 sent 0 taken 0 answered 0 live",
+    ] {
         let told = told_of(rt.alloc(), script);
         assert_eq!(rt; str::from_utf8(&told.text), Ok(""));
         assert_eq!(rt; told.ended, Ok(ExpectOutcome::Met));
@@ -109,7 +114,10 @@ fn some_are_unmet(rt: HostRuntime) -> Result<(), Fail> {
 #[test]
 fn words_are_told_with_one_space(rt: HostRuntime) -> Result<(), Fail> {
     let told = told_of(rt.alloc(), b"1 open 0 rw\n # expect  1#1   fd   1  ");
-    assert_eq!(rt; str::from_utf8(&told.text), Ok("line 2: fd 0, expected fd 1\n"));
+    assert_eq!(rt;
+        str::from_utf8(&told.text),
+        Ok("line 2: fd 0, expected fd 1\n")
+    );
     Ok(())
 }
 
@@ -147,7 +155,9 @@ fn the_first_fault(rt: HostRuntime) -> Result<(), Fail> {
     let alloc = rt.alloc();
     assert!(rt; told_of(alloc, b"# expect\n1 opens\n").is_fault(1, Cause::Word));
     assert!(rt; told_of(alloc, b"2\n# expect\n").is_fault(1, Cause::Count));
-    assert!(rt; told_of(alloc, b"1 exit\n# expect 1#1 ok\n\n1\n# expect 1#1 ok").is_fault(4, Cause::Count));
+    assert!(rt;
+        told_of(alloc, b"1 exit\n# expect 1#1 ok\n\n1\n# expect 1#1 ok").is_fault(4, Cause::Count)
+    );
     assert!(rt; told_of(alloc, b"# expect 1#1 none\n\t# expect\n").is_fault(2, Cause::Byte));
     assert!(rt; told_of(alloc, b"# expect \t").is_fault(1, Cause::Byte));
     let mut long = Vec::from_slice(alloc, b"# expect")?;

@@ -1,4 +1,4 @@
-use Rattle.std.proofs.Common.{◌≡◌, ℕ, None, Some}
+use Rattle.std.proofs.Common.{ℕ, None, Some}
 use Rattle.script_core.specs.EntryReading.{IsTag}
 use Rattle.script_core.proofs.EntryLemmas.{tag_cut}
 use Rattle.expectations.proofs.expectation.tag_of.Goals as goal

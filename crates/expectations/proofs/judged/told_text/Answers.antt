@@ -1,4 +1,4 @@
-use Rattle.std.proofs.Common.{rules, ◌≡◌, ◌∙◌, ◌+◌, ◌-◌, ◌≤◌, ◌∷◌, ℕ, List, [], ap, arith, length, length-append, length-take, subst, sym, take}
+use Rattle.std.proofs.Common.{rules, ◌≡◌, ◌∙◌, ◌-◌, ◌≤◌, ◌∷◌, ℕ, List, [], ap, arith, length, length-append, length-take, subst, sym, take}
 use Rattle.std.proofs.lemmas.Result.{err_from_is_err_and}
 use Rattle.script_core.specs.declared.TheConstants.{SCRIPT_MAX}
 use Rattle.expectations.specs.Judging.{TellsLine}

@@ -10,5 +10,5 @@ loop-note-preserved c =
           w.last-is ∙ sym (among_yes c.args.p c.args.n c.args.notes.now c.loop-note.note-index _ c.loop-note-test.true (sym c.is_about.ensures ∙ w.if-is_about.true))
       | else-is_about w ↦
           w.last-is ∙ c.loop-note.invariant
-              ∙ sym (among_no c.args.p c.args.n c.args.notes.now c.loop-note.note-index _ c.loop-note-test.true (sym c.is_about.ensures ∙ w.if-is_about.false))
+          ∙ sym (among_no c.args.p c.args.n c.args.notes.now c.loop-note.note-index _ c.loop-note-test.true (sym c.is_about.ensures ∙ w.if-is_about.false))
     ]

@@ -1,4 +1,4 @@
-use Rattle.std.proofs.Common.{◌≡◌, ◌∙◌, None, Some, List, ap, filter, sym}
+use Rattle.std.proofs.Common.{◌≡◌, ◌∙◌, List, ap, filter, sym}
 use Rattle.lock_manager.specs.declared.request.Note.{Note}
 use Rattle.session_core.specs.Event.{Event}
 use Rattle.expectations.specs.Expectations.{is_about, last_of}
@@ -17,5 +17,5 @@ loop-entry-preserved c =
       | in-Some w ↦ w.last-is ∙ sym (events_some p n c.args.journal.now c.loop-entry.entry-index event w.in-Some.note c.loop-entry-test.true c.entry-item.is (told ∙ w.in-Some.is))
       | in_default w ↦
           w.last-is ∙ c.loop-entry.invariant
-              ∙ sym (events_none p n c.args.journal.now c.loop-entry.entry-index event c.loop-entry-test.true c.entry-item.is (told ∙ w.in_default.is))
+          ∙ sym (events_none p n c.args.journal.now c.loop-entry.entry-index event c.loop-entry-test.true c.entry-item.is (told ∙ w.in_default.is))
     ]
