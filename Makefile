@@ -210,7 +210,7 @@ cluster-test: lockfs
 	@if [ ! -x $(LOCKFS_CLUSTER) ]; then echo '1..0 # skip lockfs is built without corosync'; \
 	else $(MAKE) --no-print-directory build && mkdir -p $(CLUSTER_TEST) && $(BUILD_CLUSTER) -DTEST_HOOKS -o $(CLUSTER_TEST)/lockfs-cluster \
 	    && for program in loop latency; do $(CC) $(C_FLAGS) embedding/clustertest/$$program.c -o $(CLUSTER_TEST)/$$program || exit 1; done \
-	    && LOCKREPLAY='$(abspath $(PROGRAM))' embedding/cluster-test $(CLUSTER_TEST); fi
+	    && LOCKREPLAY='$(abspath $(PROGRAM))' BUILD_CLUSTER="$(BUILD_CLUSTER)" embedding/cluster-test $(CLUSTER_TEST); fi
 RUNS ?= 1000
 MODELLED := $(addprefix embedding/cluster/,bytes.c map.c requests.c state.c log.c copy.c own.c purges.c hello.c membership.c round.c decision.c \
     handover.c replica.c tests/sim_group.c)
