@@ -35,9 +35,19 @@ def race(nodes: Nodes) -> str:
     return judged.race(nodes, 10)
 
 
+def race_while_nodes_die(nodes: Nodes) -> str:
+    """The same while nodes die."""
+    return judged.race_while_nodes_die(nodes, 30, shortens=False)
+
+
+PURGE = "    dehokuna_forget_owners(&server, number_of(node, 0), number_of(node, LARGEST_COUNT));\n"
 DELIVERED = "    if (request && lets_go(&request->call)) decide_answer(request, 0);\n"
 SENT = "    request->sent_at = milliseconds_now();\n"
 FAULTS = {
+    "purge-leaves": Fault(
+        "a purge leaves the node's locks",
+        (("state.c", PURGE, "    (void)node;\n"),),
+        race_while_nodes_die, IMPOSSIBLE),
     "told-at-once": Fault(
         "a lock is told as it is delivered, where nothing that was applied is in the way: before a majority has it, and what came before it",
         (("own.c", DELIVERED, DELIVERED + """    struct dehokuna_blocker blocker;
