@@ -58,6 +58,30 @@ def votes_differ(lockfs: str) -> str:
     return ""
 
 
+class TwoNodes(Nodes):
+    """Nodes of which corosync takes one for a quorum."""
+
+    def configuration(self, node: int) -> str:
+        """The node's corosync.conf."""
+        provider = "provider: corosync_votequorum\n"
+        return super().configuration(node).replace(provider, f"{provider}  two_node: 1\n")
+
+
+def two_node(lockfs: str) -> str:
+    """One of two nodes is quorate by corosync's `two_node` where the other dies, and has no view all the same."""
+    with TwoNodes(lockfs, 2) as nodes:
+        nodes.start_all()
+        with open_client(nodes.mount(1) / "held") as holder:
+            holder.do("lock", 0, "ex", 0, 1)
+            nodes.kill_corosync(2)
+            nodes.kill(2)
+            wait_until(lambda: holder.ask("write", 0, "x") == "EIO", 10, "who has no majority may write")
+            told = subprocess.run(nodes.inside(1, "corosync-quorumtool", "-s"), capture_output=True, text=True, check=False).stdout
+            require("Quorate:          Yes" in told, f"corosync isn't quorate, so nothing is shown: {told}")
+            require(not nodes.grants(1), "a node grants without a majority")
+    return ""
+
+
 def witness(lockfs: str) -> str:
     """Two nodes and a witness: one node goes, and the other one still grants; a second lockfs of a node is refused."""
     with Nodes(lockfs) as nodes:

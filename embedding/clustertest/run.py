@@ -51,6 +51,7 @@ STEPS: dict[str, Callable[[Nodes], str]] = {
 ALONE: dict[str, Callable[[str], str]] = {
     "refusals": refusals.refusals,
     "votes-differ": refusals.votes_differ,
+    "two-node": refusals.two_node,
     "witness": refusals.witness,
     "generations": refusals.generations,
     "withdrawals": planted.withdrawals,
