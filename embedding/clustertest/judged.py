@@ -33,6 +33,8 @@ FEWER_CLIENTS, REQUESTS, TIDY, PATIENCE_S = 6, 60, 90, 20.0
 # Beside rounds in which a node died this many others are judged.
 OTHERS = 50
 MILLISECOND = 1_000_000
+# How long a look at both clocks may take.
+LOOK = MILLISECOND // 10
 # How long before a death a release may have been answered that nobody else was told of.
 UNTOLD = 200 * MILLISECOND
 VIEW_OF_TWO = "of 2 members: goes on"
@@ -159,8 +161,8 @@ class Deaths(threading.Thread):
             told = self.nodes.told(other)[before[other]:]
             require(not any(lost in told for lost in LOST), f"node {other} lost its locks, which lives: {told}")
         # (where the ring changes, what was told last is told anew)
-        unrest = ((began - UNTOLD, max(views) + MILLISECOND), (back, time.monotonic_ns())) if with_corosync else ()
-        return Outage(node - 1, began, min(died, *purges), min(purges), max(purges) + MILLISECOND, back, unrest)
+        unrest = ((began - UNTOLD, max(views) + MILLISECOND + LOOK), (back, time.monotonic_ns())) if with_corosync else ()
+        return Outage(node - 1, began, min(died, *purges), min(purges), max(purges) + MILLISECOND + LOOK, back, unrest)
 
     def die(self, node: int, with_corosync: bool) -> tuple[int, int]:
         """Kills the node's lockfs, or corosync and then lockfs: when that began, and when nothing of it could be sent any more."""
@@ -173,10 +175,9 @@ class Deaths(threading.Thread):
 
     @staticmethod
     def time_of(words: str, told: str) -> int:
-        """When a log said this first, as the clients' clock has it; a log's times have whole milliseconds."""
+        """When a log said this first, as the clients' clock has it, or a little before; a log's times have whole milliseconds."""
         line = next(line for line in told.splitlines() if words in line)
-        since = time.time_ns() - MILLISECOND * round(1000 * float(line.split()[0]))
-        return time.monotonic_ns() - since
+        return MILLISECOND * round(1000 * float(line.split()[0])) - clocks_apart()
 
     def wait_for_all(self, nodes: list[int]) -> None:
         """Each node has what was asked for before, since it grants what is asked for now."""
@@ -204,6 +205,14 @@ class Deaths(threading.Thread):
 def is_touched(log: Log, outage: Outage) -> bool:
     """Whether the node died in the round."""
     return any(process.records and process.records[0].start < outage.began < log.ended_at for process in log.processes)
+
+
+def clocks_apart() -> int:
+    """How far the logs' clock is ahead of the clients', or a little more: where this thread wasn't held up between its looks."""
+    while True:
+        before, of_logs, behind = time.monotonic_ns(), time.time_ns(), time.monotonic_ns()
+        if behind - before < LOOK:
+            return of_logs - before
 
 
 @dataclass

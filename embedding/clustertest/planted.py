@@ -36,8 +36,8 @@ def race(nodes: Nodes) -> str:
 
 
 def race_while_nodes_die(nodes: Nodes) -> str:
-    """The same while nodes die."""
-    return judged.race_while_nodes_die(nodes, 30, shortens=False)
+    """The same while nodes die, at most four times: not each process that dies holds a lock."""
+    return [judged.race_while_nodes_die(nodes, 20, shortens=False) for _ in range(4)][-1]
 
 
 PURGE = "    dehokuna_forget_owners(&server, number_of(node, 0), number_of(node, LARGEST_COUNT));\n"
