@@ -204,15 +204,15 @@ fuse-test:
 	    && { ! command -v valgrind > /dev/null \
 	        || TRANSACTIONS=40 embedding/fuse-test -- valgrind -q --error-exitcode=9 --leak-check=full --show-leak-kinds=all $(LOCKFS); }; fi
 
-# lockfs on three nodes and five in network namespaces of this machine, under faults, with its histories judged by lockreplay; wants root, corosync
-# and iproute2, and takes some ten minutes. Skips where something is missing. `make cluster-model` tries parts by themselves, the protocol's
-# rules on models, and replicas in C on the models' net; RUNS is how many.
+# lockfs on three nodes and five in network namespaces of this machine, under faults, with its histories judged by lockreplay, and copies of lockfs
+# with planted faults, which steps have to tell; wants root, corosync and iproute2, and takes some fifteen minutes. Skips where something is missing.
+# `make cluster-model` tries parts by themselves, the protocol's rules on models, and replicas in C on the models' net; RUNS is how many.
 CLUSTER_TEST := embedding/out/cluster-test
 cluster-test: lockfs
 	@if [ ! -x $(LOCKFS_CLUSTER) ]; then echo '1..0 # skip lockfs is built without corosync'; \
 	else $(MAKE) --no-print-directory build && mkdir -p $(CLUSTER_TEST) && $(BUILD_CLUSTER) -DTEST_HOOKS -o $(CLUSTER_TEST)/lockfs-cluster \
 	    && for program in loop latency; do $(CC) $(C_FLAGS) embedding/clustertest/$$program.c -o $(CLUSTER_TEST)/$$program || exit 1; done \
-	    && LOCKREPLAY='$(abspath $(PROGRAM))' embedding/cluster-test $(CLUSTER_TEST); fi
+	    && LOCKREPLAY='$(abspath $(PROGRAM))' BUILD_CLUSTER="$(BUILD_CLUSTER)" embedding/cluster-test $(CLUSTER_TEST); fi
 RUNS ?= 1000
 MODELLED := $(addprefix embedding/cluster/,bytes.c map.c requests.c state.c log.c copy.c own.c purges.c hello.c membership.c round.c decision.c \
     handover.c replica.c tests/sim_group.c)

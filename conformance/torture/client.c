@@ -535,6 +535,8 @@ static const char *run_round(uint64_t seed, int64_t requests, uint64_t patience)
     atomic_store(&noted->live, 0);
     atomic_store(&noted->left, requests);
     atomic_store(&noted->may_go, 0);
+    /* (who is killed as it takes a slot leaves it as the round before did) */
+    for (uint32_t index = 0; index < noted->slots_there; index++) ready_slot(index, -1, 0);
     for (int started = 0; started < client_count - client_count / 4; started++) start_one(&round);
     atomic_store(&noted->may_go, 1);
     const bool is_quiet = keep(&round, patience);

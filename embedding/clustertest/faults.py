@@ -183,7 +183,7 @@ def lone(nodes: Nodes, tries: int = 20) -> str:
             held += 1
             require(got - cut > GRACE_S, f"node 1 got the lock {got - cut:.3f} s after the cut, and node 3 has it: {last}")
         nodes.join(3)
-        loop.wait(30)
+        wait_until(lambda: loop.poll() is not None, 30, "what node 3 asked for is never answered")
         nodes.wait_for_grants(3)
     nodes.wait_for_agreement(list(nodes.all()))
     return f"node 3 held the lock in {held} of {tries} cuts"

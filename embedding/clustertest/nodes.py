@@ -83,17 +83,18 @@ class Nodes:
     works: list[Path] = []
     ended: list[int] = []
 
-    def __init__(self, lockfs: str, count: int = 3, transport: str = "knet", numbers: Optional[dict[int, int]] = None, realtime: bool = True) -> None:
+    def __init__(self, lockfs: str, count: int = 3, transport: str = "knet", numbers: Optional[dict[int, int]] = None, realtime: bool = True,
+                 folder: Optional[Path] = None) -> None:
         self.lockfs, self.count, self.transport, self.realtime = lockfs, count, transport, realtime
         self.numbers = numbers or {}
         self.work = Path(tempfile.mkdtemp(prefix="cluster-test-", dir=MEMORY))
-        self.folder = self.work / "folder"
+        self.folder = folder or self.work / "folder"
         self.corosyncs: dict[int, subprocess.Popen[bytes]] = {}
         self.servers: dict[int, subprocess.Popen[bytes]] = {}
         self.works.append(self.work)
 
     def __enter__(self) -> Nodes:
-        self.folder.mkdir()
+        self.folder.mkdir(exist_ok=True)
         self.work.chmod(0o711)
         (self.work / "key").write_bytes(os.urandom(256))
         try:

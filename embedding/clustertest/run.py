@@ -13,7 +13,7 @@ import traceback
 from pathlib import Path
 from typing import Callable, Iterator
 
-from clustertest import faults, judged, locks, refusals, schedules, torture
+from clustertest import faults, judged, locks, planted, refusals, schedules, torture
 from clustertest.nodes import GRACE_MS, MEMORY, Failed, Nodes, require
 
 # In the order in which they run on the same three nodes.
@@ -51,8 +51,12 @@ STEPS: dict[str, Callable[[Nodes], str]] = {
 ALONE: dict[str, Callable[[str], str]] = {
     "refusals": refusals.refusals,
     "votes-differ": refusals.votes_differ,
+    "two-node": refusals.two_node,
     "witness": refusals.witness,
+    "generations": refusals.generations,
+    "withdrawals": planted.withdrawals,
     "five-nodes": schedules.on_five_nodes,
+    **{f"planted-{name}": lambda _, fault=fault: planted.is_told(fault) for name, fault in planted.FAULTS.items()},
 }
 PACKAGES = {"corosync": "corosync", "corosync-quorumtool": "corosync", "ip": "iproute2", "nsenter": "util-linux", "unshare": "util-linux",
             "flock": "util-linux", "sqlite3": "sqlite3", "fusermount3": "fuse3"}
