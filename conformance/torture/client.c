@@ -482,8 +482,12 @@ static bool moves(struct round *round) {
 }
 
 static void kill_all(void) {
-    for (uint32_t index = 0; index < slots_taken(); index++)
-        if (is_alive(slot_at(index))) kill(slot_at(index)->pid, SIGKILL);
+    for (uint32_t index = 0; index < slots_taken(); index++) {
+        struct slot *slot = slot_at(index);
+        if (!is_alive(slot)) continue;
+        if (!slot->killed_at) slot->killed_at = now();
+        kill(slot->pid, SIGKILL);
+    }
 }
 
 /* Kills whoever is left, and waits for them; they may stay in a file system that hangs. */

@@ -349,7 +349,9 @@ static int sooner(int one, int other) { return one < 0 ? other : other < 0 || on
 
 int replica_timeout(void) {
     if (group_flush() || (this_round.is_new && there.has_ring)) return FLUSH_PAUSE;
-    int purge = purges_timeout(), silent = this_round.patient_until ? until(this_round.patient_until) : -1, late = late_at ? until(late_at) : -1;
+    int purge = purges_timeout(), silent = this_round.patient_until ? until(this_round.patient_until) : -1;
+    /* (what waits for purges is acknowledged behind them) */
+    int late = late_at && is_in_view() && copy_counts() ? until(late_at) : -1;
     return sooner(purge, sooner(silent, late));
 }
 
