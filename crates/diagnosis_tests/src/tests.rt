@@ -16,8 +16,8 @@ type HistoryRow = (
     &'static str,
 );
 
-/// Scripts, and of each what stands behind the place of its fault, the line as it is shown, and its caret.
-const SCRIPTS: [Row; 62] = [
+/// Scripts with a faulty process or byte, and of each what stands behind the place of its fault, the line as it is shown, and its caret.
+const PROCESSES_AND_BYTES: [Row; 17] = [
     // A process.
     (
         b"17 open 0 rw\n",
@@ -122,6 +122,10 @@ const SCRIPTS: [Row; 62] = [
         "1 exit \\x07",
         "       ^",
     ),
+];
+
+/// The same with a faulty header line or command.
+const HEADERS_AND_COMMANDS: [Row; 16] = [
     // A header line.
     (
         b"1 open 0 rw\npolicy queue\n",
@@ -220,6 +224,10 @@ const SCRIPTS: [Row; 62] = [
         "1 fcntl 0",
         "  ^",
     ),
+];
+
+/// The same with too few or too many words, or a faulty number.
+const COUNTS_AND_NUMBERS: [Row; 17] = [
     // How many words.
     (
         b"1 open 0\n",
@@ -324,6 +332,10 @@ const SCRIPTS: [Row; 62] = [
         " 1  setlk  0 w set 0 0 x",
         "                       ^",
     ),
+];
+
+/// The same with another faulty word, a comment behind a request, or without a fault.
+const WORDS_AND_COMMENTS: [Row; 12] = [
     // A word.
     (
         b"1 open 0 wr\n",
@@ -706,8 +718,44 @@ fn fault_of_journal(alloc: Global, bytes: &[u8]) -> Result<Option<ScriptFault>, 
 
 /// Behind the fault of each of these scripts stands what is written here.
 #[test]
-fn scripts_by_hand(rt: HostRuntime) -> Result<(), Fail> {
-    for (bytes, told, shown, caret) in SCRIPTS {
+fn scripts_with_processes_and_bytes(rt: HostRuntime) -> Result<(), Fail> {
+    for (bytes, told, shown, caret) in PROCESSES_AND_BYTES {
+        let fault = fault_of_script(rt.alloc(), bytes);
+        let seen = told_behind(rt.alloc(), Language::Script, bytes, fault)?;
+        let due = due(rt.alloc(), told, shown, caret)?;
+        assert_eq!(rt; seen.as_str(), due.as_str());
+    }
+    Ok(())
+}
+
+/// So it is with these.
+#[test]
+fn scripts_with_headers_and_commands(rt: HostRuntime) -> Result<(), Fail> {
+    for (bytes, told, shown, caret) in HEADERS_AND_COMMANDS {
+        let fault = fault_of_script(rt.alloc(), bytes);
+        let seen = told_behind(rt.alloc(), Language::Script, bytes, fault)?;
+        let due = due(rt.alloc(), told, shown, caret)?;
+        assert_eq!(rt; seen.as_str(), due.as_str());
+    }
+    Ok(())
+}
+
+/// So it is with these.
+#[test]
+fn scripts_with_counts_and_numbers(rt: HostRuntime) -> Result<(), Fail> {
+    for (bytes, told, shown, caret) in COUNTS_AND_NUMBERS {
+        let fault = fault_of_script(rt.alloc(), bytes);
+        let seen = told_behind(rt.alloc(), Language::Script, bytes, fault)?;
+        let due = due(rt.alloc(), told, shown, caret)?;
+        assert_eq!(rt; seen.as_str(), due.as_str());
+    }
+    Ok(())
+}
+
+/// So it is with these.
+#[test]
+fn scripts_with_words_and_comments(rt: HostRuntime) -> Result<(), Fail> {
+    for (bytes, told, shown, caret) in WORDS_AND_COMMENTS {
         let fault = fault_of_script(rt.alloc(), bytes);
         let seen = told_behind(rt.alloc(), Language::Script, bytes, fault)?;
         let due = due(rt.alloc(), told, shown, caret)?;
