@@ -162,7 +162,7 @@ check 2 empty other-form.err empty --expect other-form
 check 2 empty faulty.err empty --expect faulty
 check 2 empty faulty.err empty --expect faulty-before
 check 1 empty read-failed.err empty --expect missing
-check 2 empty two-files.err empty --expect unmet unmet
+check 2 empty two-files.err empty --expect unmet missing
 for flag in --threads --explain --check --timeline --state=1 --fail-on=busy; do check 2 empty expect.err empty --expect "$flag" missing; done
 check 2 empty expect-explore.err empty --explore --expect missing
 check 2 empty expect-explore.err empty --expect --history missing
