@@ -165,7 +165,7 @@ check 1 empty read-failed.err empty --expect missing
 check 2 empty two-files.err empty --expect unmet missing
 for flag in --threads --explain --check --timeline --state=1 --fail-on=busy; do check 2 empty expect.err empty --expect "$flag" missing; done
 check 2 empty expect-explore.err empty --explore --expect missing
-check 2 empty expect-explore.err empty --expect --history missing
+check 2 empty expect-history.err empty --expect --history missing
 check 0 changes.out empty empty --state changes changes
 check 0 changes.out empty changes --explain --state=changes
 check 0 changes.one empty empty --threads --state changes changes-of-one
