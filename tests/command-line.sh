@@ -225,6 +225,12 @@ check 3 crossed.explored empty empty --explore --fail-on busy,stuck crossed
 check 0 crossed.stuck empty empty --explore --run stuck --fail-on unborn crossed
 check 0 empty empty crossed.deadlock --check
 check 0 empty empty crossed.stuck --check
+check 3 crossed.deadlock.drawn empty empty --explore --run deadlock --timeline crossed
+check 3 crossed.stuck.drawn empty crossed --timeline --run=stuck --explore
+check 3 empty empty empty --explore --timeline --run busy crossed
+check 2 empty faulty.err empty --explore --timeline --run busy faulty
+check 2 empty timeline.err empty --explore --timeline missing
+check 2 empty timeline.err empty --explore --run stuck --timeline --json missing
 check 3 once.busy empty empty --explore --run busy once
 check 0 once.busy empty once --run=busy --explore --fail-on=lost,deadlock
 check 0 empty empty once.busy --check

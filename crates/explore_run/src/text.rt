@@ -74,7 +74,7 @@ pub fn printed_text(
 {
     match printed {
         Printed::Table => whole_text(alloc, script, explored),
-        Printed::RunOf(finding) => text_alone(alloc, script, explored, finding),
+        Printed::RunOf { finding, states } => text_alone(alloc, script, explored, finding, states),
     }
 }
 
@@ -91,20 +91,21 @@ fn whole_text(alloc: Global, script: &Script, explored: &Explored) -> Result<Vec
     Ok(text)
 }
 
-/// The run of this finding alone.
+/// The run of this finding alone, with the state behind these of its events.
 fn text_alone(
     alloc: Global,
     script: &Script,
     explored: &Explored,
     finding: Finding,
+    states: States,
 ) -> Result<Vec<u8>, Memory>
     requires few { length script.now.arrivals ≤ SCRIPT_MAX + 1 }
     requires runs { length explored.now.runs.items ≡ 8 }
     requires told { IsTold script.now explored.now.is_complete finding (run_by explored.now finding) }
-    ensures { IfOk result (λ text. IsPrintedOf script.now explored.now (Printed.RunOf finding) text.items) }
+    ensures { IfOk result (λ text. IsPrintedOf script.now explored.now (Printed.RunOf finding states) text.items) }
 {
     let mut text = Vec::new(alloc);
-    push_run_alone(alloc, &mut text, script, explored, finding)?;
+    push_run_alone(alloc, &mut text, script, explored, finding, states)?;
     Ok(text)
 }
 
@@ -182,7 +183,7 @@ fn push_run(
     match run {
         Some(run) if !is_usual(finding) => {
             push_heading(text, finding)?;
-            push_front(alloc, text, script, finding, run)
+            push_front(alloc, text, script, finding, run, States::Nowhere)
         }
         _ => Ok(()),
     }
@@ -195,16 +196,17 @@ fn push_run_alone(
     script: &Script,
     explored: &Explored,
     finding: Finding,
+    states: States,
 ) -> Result<(), Memory>
     requires few { length script.now.arrivals ≤ SCRIPT_MAX + 1 }
     requires runs { length explored.now.runs.items ≡ 8 }
     requires told { IsTold script.now explored.now.is_complete finding (run_by explored.now finding) }
-    ensures { OnOk result ((more : List ℕ) × IsRunAlone script.now finding (run_by explored.now finding) more × (text.new.items ≡ text.old.items ++ more)) }
+    ensures { OnOk result ((more : List ℕ) × IsRunAlone states script.now finding (run_by explored.now finding) more × (text.new.items ≡ text.old.items ++ more)) }
 {
     match run_in(explored, finding) {
         Some(run) => {
             push_headers(text, script.rules)?;
-            push_front(alloc, text, script, finding, run)
+            push_front(alloc, text, script, finding, run, states)
         }
         None => Ok(()),
     }
@@ -217,13 +219,14 @@ fn push_front(
     script: &Script,
     finding: Finding,
     run: &[u8],
+    states: States,
 ) -> Result<(), Memory>
     requires few { length script.now.arrivals ≤ SCRIPT_MAX + 1 }
     requires run { IsLeastRun script.now finding run.now }
-    ensures { OnOk result ((more : List ℕ) × TellsFront script.now finding run.now more × (text.new.items ≡ text.old.items ++ more)) }
+    ensures { OnOk result ((more : List ℕ) × TellsFront states script.now finding run.now more × (text.new.items ≡ text.old.items ++ more)) }
 {
     let session = replay_order(alloc, script, run)?;
-    push_events(alloc, text, script, &session)?;
+    push_events(alloc, text, script, &session, states)?;
     if is_of_end(finding) {
         push_end(alloc, text, script, &session)
     } else {
@@ -231,23 +234,24 @@ fn push_front(
     }
 }
 
-/// Appends the events of a session with what explains them.
+/// Appends the events of a session with what explains them, and the state behind these of them.
 fn push_events(
     alloc: Global,
     text: &mut Vec<u8>,
     script: &Script,
     session: &Session,
+    states: States,
 ) -> Result<(), Memory>
     requires { (journal : List Event) × (S : State) × IsFront script.now journal S × HasReplayed script.now session.now journal S }
     ensures { OnOk result ((journal : List Event) (S : State) → IsFront script.now journal S → HasReplayed script.now session.now journal S
-        → (more : List ℕ) × ExplainsRun States.Nowhere script.now.rules (processes_in script.now) 1 opening_state journal S more
+        → (more : List ℕ) × ExplainsRun states script.now.rules (processes_in script.now) 1 opening_state journal S more
         × (text.new.items ≡ text.old.items ++ more)) }
 {
     write_explained(
         alloc,
         script.rules.limits.processes(),
         script.rules,
-        States::Nowhere,
+        states,
         session.journal(),
         text,
     )

@@ -4,6 +4,7 @@ ghost use Rattle.std.specs.Prelude.{◌≤◌};
 use explore_core::Finding;
 use explore_run::{ExploreOutcome, Exploring, Nobody, Printed, explore_script};
 use replay_core::{FromReader, Outcome, ToWriter, check};
+use script_core::States;
 use std::alloc::{AllocError, Global};
 use std::process::Abort;
 use std::test::Fail;
@@ -129,11 +130,19 @@ fn limited(rt: HostRuntime) -> Result<(), Fail> {
     Ok(())
 }
 
+/// The run of the finding alone, with no state.
+fn run_of(finding: Finding) -> Printed {
+    Printed::RunOf {
+        finding,
+        states: States::Nowhere,
+    }
+}
+
 /// A finding's run alone is a legal journal, and there is none of a finding that isn't possible.
 #[test]
 fn runs_alone(rt: HostRuntime) -> Result<(), Fail> {
     for (finding, lines) in [(Finding::Deadlock, 10), (Finding::Stuck, 13)] {
-        let (_, text) = explore(&rt, rt.alloc(), CROSSED, 1000, Printed::RunOf(finding), &[])?;
+        let (_, text) = explore(&rt, rt.alloc(), CROSSED, 1000, run_of(finding), &[])?;
         assert!(rt;
             text.as_slice()
                 .starts_with(b"policy held\nlimits small\n1#1 open 0 rw ")
@@ -146,7 +155,7 @@ fn runs_alone(rt: HostRuntime) -> Result<(), Fail> {
         rt.alloc(),
         CROSSED,
         1000,
-        Printed::RunOf(Finding::Lost),
+        run_of(Finding::Lost),
         &[],
     )?;
     assert!(rt; text.is_empty());
@@ -229,7 +238,7 @@ fn long_run_alone(rt: HostRuntime) -> Result<(), Fail> {
     let script = long_script(rt.alloc())?;
     let mut due = String::from_str(rt.alloc(), "policy held\nlimits small\n")?;
     push_long_run(&mut due)?;
-    let printed = Printed::RunOf(Finding::Unborn);
+    let printed = run_of(Finding::Unborn);
     let (_, text) = explore(&rt, rt.alloc(), script.as_bytes(), 10_000, printed, &[])?;
     assert!(rt; text.as_slice() == due.as_bytes());
     assert!(rt; is_legal(rt.alloc(), &text)?);

@@ -170,6 +170,6 @@ Script: a line for each request, the number of a process, 1 to 16, and one of
   those that begin with #, are skipped.
 
 With --json, beside any of these, each line of the output is a JSON object;
---timeline draws the run of a script, a column for each process. --diagnose,
-beside any, shows behind a fault its line, and what was wrong in it.
+--timeline draws a run, that of --explore --run too, a column for each process.
+--diagnose, beside any, shows behind a fault its line, and what was wrong in it.
 man lockreplay has each request, the output, and the faults by number.";

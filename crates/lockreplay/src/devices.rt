@@ -5,7 +5,7 @@ use either::Either;
 use json_lines::Objects;
 use line_writer::LineWriter;
 use range_core::Memory;
-use replay_core::ToWriter;
+use replay_core::{RunFault, ToWriter};
 use std::fs;
 use std::fs::Files;
 use std::io::{Printer, writer};
@@ -67,18 +67,29 @@ pub fn picture(rt: &impl AllocGlobal) -> Picture {
     ToWriter::new(LineWriter::new(rt.alloc(), Timeline::new(rt.alloc())))
 }
 
+/// Draws the run of a job that ended so on standard output, and says the status.
+pub fn drawn(
+    rt: &impl Print,
+    picture: Picture,
+    status: Result<u8, RunFault>,
+    notes: &mut Notes,
+) -> Result<u8, Fault> {
+    match status {
+        Ok(status) => {
+            draw(rt, picture, notes)?;
+            Ok(status)
+        }
+        Err(fault) => Err(unless_refused(picture.into_inner().refused(), fault)),
+    }
+}
+
 /// Draws the run on standard output. Why a write failed is noted.
-pub fn draw(rt: &impl Print, picture: Picture, notes: &mut Notes) -> Result<(), Fault> {
+fn draw(rt: &impl Print, picture: Picture, notes: &mut Notes) -> Result<(), Fault> {
     let timeline = picture.into_inner().into_inner();
     let mut writing = Writing::new(writer(rt));
     let drawn = timeline.draw(&mut writing);
     notes.unwritten = writing.unwritten();
     drawn.map_err(Fault::of_line)
-}
-
-/// The fault that is told where a run ends with this one: want of memory, where a row found none.
-pub fn fault_of_picture(picture: Picture, fault: impl Into<Fault> + Drop) -> Fault {
-    unless_refused(picture.into_inner().refused(), fault)
 }
 
 /// Want of memory, or else the fault.

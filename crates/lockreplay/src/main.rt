@@ -15,7 +15,7 @@ mod notes;
 mod options;
 mod progress;
 
-use devices::{draw, fault_of, fault_of_picture, input, output, picture};
+use devices::{drawn, fault_of, input, output, picture};
 use diagnosis::Language;
 use expectations::judge_expectations;
 use explore_line::explore_options;
@@ -69,16 +69,7 @@ fn run(
     let json = take_flag(&mut words, "--json");
     notes.input.asked = take_flag(&mut words, "--diagnose");
     if asks_for(&words, "--explore") {
-        let options = explore_options(rt.alloc(), &words).map_err(Fault::of_command_line)?;
-        let exploring = options.exploring(rt.alloc())?;
-        explore(
-            rt,
-            &Progress::new(rt, stderr),
-            &exploring,
-            path_of(options.file),
-            json,
-            notes,
-        )
+        explore_once(rt, &Progress::new(rt, stderr), words, json, notes)
     } else if asks_for(&words, "--history") {
         let options = history_line::history_options(rt.alloc(), &words).map_err(
             Fault::of_command_line,
@@ -88,6 +79,26 @@ fn run(
         judge(rt, judging, path_of(options.file), json, notes)
     } else {
         run_once(rt, words, json, notes)
+    }
+}
+
+/// Does what a command line asks for that takes a script in every order.
+fn explore_once(
+    rt: &(impl AllocGlobal + Files + Input + Print + Sync + Threads),
+    progress: &impl Watch,
+    mut words: Vec<String>,
+    json: bool,
+    notes: &mut Notes,
+) -> Result<u8, Fault> {
+    let timeline = take_flag(&mut words, "--timeline");
+    let options = explore_options(rt.alloc(), &words).map_err(Fault::of_command_line)?;
+    let states = options.states(timeline, json).map_err(Fault::Misuse)?;
+    let exploring = options.exploring(rt.alloc(), states)?;
+    let path = path_of(options.file);
+    if timeline {
+        explore_drawn(rt, progress, &exploring, path, notes)
+    } else {
+        explore(rt, progress, &exploring, path, json, notes)
     }
 }
 
@@ -153,13 +164,7 @@ fn replay_drawn(
     let mut lines = picture(rt);
     let performed = perform(rt, job, &mut source, &mut lines);
     notes.input = source.into_kept();
-    match performed {
-        Ok(outcome) => {
-            draw(rt, lines, notes)?;
-            Ok(outcome.status())
-        }
-        Err(fault) => Err(fault_of_picture(lines, fault)),
-    }
+    drawn(rt, lines, performed.map(|outcome| outcome.status()), notes)
 }
 
 /// Replays the script in the file, or on standard input where there is none, and writes to standard output; what the run shows decides the
@@ -218,6 +223,23 @@ fn explore(
         Ok(outcome) => Ok(outcome.status()),
         Err(fault) => Err(fault_of(sink, fault, notes)),
     }
+}
+
+/// Searches every order of the script in the file, or on standard input where there is none, and draws the run of a finding on standard output.
+fn explore_drawn(
+    rt: &(impl AllocGlobal + Files + Input + Print + Sync + Threads),
+    progress: &impl Watch,
+    exploring: &Exploring,
+    path: Option<&str>,
+    notes: &mut Notes,
+) -> Result<u8, Fault>
+    requires { 1 ≤ exploring.now.limit }
+{
+    let mut source = input(rt, path, notes)?;
+    let mut lines = picture(rt);
+    let explored = explore_script(rt, rt.alloc(), exploring, &mut source, &mut lines, progress);
+    notes.input = source.into_kept();
+    drawn(rt, lines, explored.map(|outcome| outcome.status()), notes)
 }
 
 /// Judges the history in the file, or on standard input where there is none, and writes to standard output.

@@ -3,7 +3,7 @@ ghost use Rattle.std.specs.Prelude.{◌≡◌, ◌≢◌, ◌≤◌, Some, None,
 ghost use Rattle.lockreplay.specs.Jobs.{IsDetailOf, IsDrawnJobOf, IsExpecting, IsJobOf};
 ghost use Rattle.lockreplay.specs.JudgedRuns.{AreRunFailures, IsJudgedDetail};
 ghost use Rattle.lockreplay.specs.Judgings.{AreStatesAsked, AreStatesOf, IsJudgingOf, IsLimitAsked, IsLimitOf};
-ghost use Rattle.lockreplay.specs.Explorings.{AreFailures, IsExploringFault, IsExploringOf, IsPrintedAsked, IsSituationLimit};
+ghost use Rattle.lockreplay.specs.Explorings.{AreFailures, AreStatesDrawn, IsExploringFault, IsExploringOf, IsPrintedAsked, IsSituationLimit};
 
 use crate::faults::Fault;
 use explore_core::Finding;
@@ -28,8 +28,8 @@ pub enum Misuse {
     /// `--state` beside `--check`, as `--explain`.
     #[error("error: the argument '--state <N>' cannot be used with '--check'\n\nFor more information, try '--help'.\n")]
     State,
-    /// `--timeline` beside another flag than `--threads`.
-    #[error("error: the argument '--timeline' can only be used with '--threads'\n\nFor more information, try '--help'.\n")]
+    /// `--timeline` beside another flag than `--threads`, or `--explore` with `--run`.
+    #[error("error: the argument '--timeline' can only be used with '--threads', or with '--explore' and '--run'\n\nFor more information, try '--help'.\n")]
     Timeline,
     /// `--expect` beside another flag than `--json`.
     #[error("error: the argument '--expect' can only be used with '--json'\n\nFor more information, try '--help'.\n")]
@@ -252,17 +252,29 @@ pub struct ExploreOptions<'a> {
 }
 
 impl ExploreOptions<'_> {
-    /// What the search is asked for.
-    pub fn exploring(self, alloc: Global) -> Result<Exploring, Fault>
-        ensures asked { MatchResult result (IsExploringOf (option_map (λ word. word.now) self.entry.limit)
+    /// The states that are told behind the events of the run of a finding: a picture wants each. `--timeline` stands beside `--run`, and not
+    /// beside `--json`.
+    pub fn states(self, timeline: bool, json: bool) -> Result<States, Misuse>
+        ensures { AreStatesDrawn timeline json (option_map (λ word. word.now) self.entry.run) result }
+    {
+        match (timeline, json, self.run) {
+            (false, _, _) => Ok(States::Nowhere),
+            (true, false, Some(_)) => Ok(States::Everywhere),
+            _ => Err(Misuse::Timeline),
+        }
+    }
+
+    /// What the search is asked for; with these states the run of a finding is told.
+    pub fn exploring(self, alloc: Global, states: States) -> Result<Exploring, Fault>
+        ensures asked { MatchResult result (IsExploringOf states (option_map (λ word. word.now) self.entry.limit)
             (option_map (λ word. word.now) self.entry.run) (option_map (λ word. word.now) self.entry.fail_on))
-            (IsExploringFault (option_map (λ word. word.now) self.entry.limit)
+            (IsExploringFault states (option_map (λ word. word.now) self.entry.limit)
             (option_map (λ word. word.now) self.entry.run) (option_map (λ word. word.now) self.entry.fail_on)) }
         ensures limit { IfOk result (λ exploring. 1 ≤ exploring.limit) }
     {
         Ok(Exploring {
             limit: situation_limit(self.limit).map_err(Fault::Misuse)?,
-            printed: printed_of(self.run).map_err(Fault::Misuse)?,
+            printed: printed_of(self.run, states).map_err(Fault::Misuse)?,
             fail_on: fail_on_of(alloc, self.fail_on)?,
         })
     }
@@ -282,12 +294,12 @@ fn situation_limit(word: Option<&str>) -> Result<usize, Misuse>
 }
 
 /// What is printed of a search.
-fn printed_of(word: Option<&str>) -> Result<Printed, Misuse>
-    ensures { IsPrintedAsked (option_map (λ word. word.now) word.entry) result }
+fn printed_of(word: Option<&str>, states: States) -> Result<Printed, Misuse>
+    ensures { IsPrintedAsked states (option_map (λ word. word.now) word.entry) result }
 {
     match word {
         Some(word) => match finding_of(word) {
-            Some(finding) => Ok(Printed::RunOf(finding)),
+            Some(finding) => Ok(Printed::RunOf { finding, states }),
             None => Err(Misuse::Run),
         },
         None => Ok(Printed::Table),

@@ -21,7 +21,7 @@ returns-then-is_of_end c =
     (λ told.
     let end = told least.journal front.0 replayed in (
       more.0 ++ end.0,
-      front_told script c.args.finding c.args.run.now more.0 end.0 least front.0 front.1 more.1
+      front_told c.args.states script c.args.finding c.args.run.now more.0 end.0 least front.0 front.1 more.1
           (subst (λ (b : Bool). IsBehindEvents b script least.journal front.0 end.0) (sym c.if-is_of_end.true ∙ c.is_of_end.ensures) end.1),
       end.2 ∙ ap (λ (l : List ℕ). l ++ end.0) more.2 ∙ append_assoc c.args.text.now.items more.0 end.0,
     ))
@@ -35,7 +35,7 @@ returns c =
     let replayed = c.in_ok-session.ensures least.journal front.0 front.1 least.in_turn in
     let more = c.in_ok-push_events.ensures least.journal front.0 front.1 replayed in (
       more.0 ++ [],
-      front_told script c.args.finding c.args.run.now more.0 [] least front.0 front.1 more.1
+      front_told c.args.states script c.args.finding c.args.run.now more.0 [] least front.0 front.1 more.1
           (subst (λ (b : Bool). IsBehindEvents b script least.journal front.0 []) (sym c.if-is_of_end.false ∙ c.is_of_end.ensures) refl),
       more.2 ∙ ap (λ (l : List ℕ). c.args.text.now.items ++ l) (sym (append-nil more.0)),
     )

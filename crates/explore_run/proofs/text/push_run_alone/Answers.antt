@@ -14,7 +14,7 @@ returns-in_ok-push_headers-in-Some c =
     on_ok_weaker c.push_front.result
     (λ told. (
       lines ++ told.0,
-      subst (λ (r : Option (List ℕ)). IsRunAlone script c.args.finding r (lines ++ told.0)) found (told.0, told.1, refl),
+      subst (λ (r : Option (List ℕ)). IsRunAlone c.args.states script c.args.finding r (lines ++ told.0)) found (told.0, told.1, refl),
       told.2 ∙ ap (λ (l : List ℕ). l ++ told.0) headers ∙ append_assoc c.args.text.now.items lines told.0,
     ))
     c.push_front.ensures
