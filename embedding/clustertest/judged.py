@@ -7,6 +7,7 @@ import errno
 import fcntl
 import os
 import random
+import re
 import signal
 import struct
 import subprocess
@@ -38,8 +39,9 @@ LOOK = MILLISECOND // 10
 # How long before a death a release may have been answered that nobody else was told of.
 UNTOLD = 200 * MILLISECOND
 VIEW_OF_TWO = "of 2 members: goes on"
-# What a node says that loses its locks.
+# What a node says that loses its locks, and as it goes over to another view.
 LOST = ("loses its locks", "begins with no locks", "gives EIO")
+OTHER_VIEW = re.compile(r": (no )?view\b")
 # The files of a round, and who asks for them behind it: an owner of each mount, behind all others.
 FILES, LAST_OWNERS = 2, 3 * 10**9
 NO_MOUNT = (errno.ENOENT, errno.ENOTCONN, errno.ECONNABORTED, errno.EIO, errno.ENODEV)
@@ -124,6 +126,8 @@ class Deaths(threading.Thread):
         super().__init__(daemon=True)
         self.nodes, self.rounds, self.random = nodes, rounds, random.Random(seed)
         self.outages: list[Outage] = []
+        # How much of each node's log was looked at.
+        self.looked_at = self.lengths()
         self.begun = 0
         # Held from a death until the others are told to purge the node.
         self.in_death = threading.Lock()
@@ -138,10 +142,21 @@ class Deaths(threading.Thread):
         except Exception as failure:  # pylint: disable=broad-except
             self.failure = failure
 
+    def lengths(self) -> dict[int, int]:
+        """How long each node's log is."""
+        return {node: len(self.nodes.told(node)) for node in self.nodes.all()}
+
+    def look_at_all(self) -> None:
+        """Since the last outage nobody went over to another view: where a busy machine has corosync break its ring, what was told isn't judged."""
+        for node, looked_at in self.looked_at.items():
+            told = self.nodes.told(node)[looked_at:]
+            require(not OTHER_VIEW.search(told), f"node {node} went over to another view while none died: {told}")
+
     def outage(self, node: int, with_corosync: bool) -> Outage:
         """A node's lockfs dies, or lockfs and corosync at once, and comes back once the others have purged its locks."""
         others = [other for other in self.nodes.all() if other != node]
-        before = {other: len(self.nodes.told(other)) for other in others}
+        self.look_at_all()
+        before = self.lengths()
         with self.in_death:
             self.begun += 1
             began, died = self.die(node, with_corosync)
@@ -160,6 +175,7 @@ class Deaths(threading.Thread):
         for other in others:
             told = self.nodes.told(other)[before[other]:]
             require(not any(lost in told for lost in LOST), f"node {other} lost its locks, which lives: {told}")
+        self.looked_at = self.lengths()
         # (where the ring changes, what was told last is told anew)
         unrest = ((began - UNTOLD, max(views) + MILLISECOND + LOOK), (back, time.monotonic_ns())) if with_corosync else ()
         return Outage(node - 1, began, min(died, *purges), min(purges), max(purges) + MILLISECOND + LOOK, back, unrest)
@@ -254,6 +270,7 @@ def run_rounds(nodes: Nodes, seconds: float, seed: int) -> tuple[list[Round], li
             deaths.join(120)
     if deaths.failure:
         raise deaths.failure
+    deaths.look_at_all()
     return ran, deaths.outages
 
 
