@@ -68,6 +68,7 @@ fn is_integer(word: &str) -> bool {
 #[derive(Clone, Copy, Debug, PartialEq, Eq)]
 pub enum Argument {
     File,
+    Section,
     Descriptor,
     Offset,
     Size,
@@ -79,6 +80,7 @@ pub enum Argument {
     Whence,
     Operation,
     NonBlocking,
+    Shared,
     Process,
     Policy,
     Limits,
@@ -100,6 +102,7 @@ impl Argument {
     pub fn name(self) -> &'static str {
         match self {
             Argument::File | Argument::Number => "FILE",
+            Argument::Section => "SECTION",
             Argument::Id => "ID",
             Argument::Descriptor => "FD",
             Argument::Offset => "OFFSET",
@@ -112,6 +115,7 @@ impl Argument {
             Argument::Whence => "WHENCE",
             Argument::Operation => "OPERATION",
             Argument::NonBlocking => "LOCK_NB",
+            Argument::Shared => "VISIT",
             Argument::Process => "PROCESS",
             Argument::Policy => "POLICY",
             Argument::Limits => "LIMITS",
@@ -125,7 +129,7 @@ impl Argument {
     /// How it is spelled.
     pub fn form(self) -> Form {
         match self {
-            Argument::File => Form::Natural(63),
+            Argument::File | Argument::Section => Form::Natural(63),
             Argument::Descriptor => Form::Natural(4_294_967_295),
             Argument::Offset
             | Argument::Size
@@ -137,6 +141,7 @@ impl Argument {
             Argument::Whence => Form::Words(&["set", "cur", "end"]),
             Argument::Operation => Form::Words(&["sh", "ex", "un"]),
             Argument::NonBlocking => Form::Words(&["nb"]),
+            Argument::Shared => Form::Words(&["sh"]),
             Argument::Process => Form::Process,
             Argument::Policy => Form::Words(&["held", "queue"]),
             Argument::Limits => Form::Words(&["small", "wide"]),
@@ -176,9 +181,9 @@ impl Shape {
 }
 
 /// The commands of a script.
-pub const COMMANDS: [&str; 17] = [
+pub const COMMANDS: [&str; 20] = [
     "open", "dup", "dup2", "close", "seek", "resize", "getlk", "setlk", "setlkw", "ogetlk",
-    "osetlk", "osetlkw", "flock", "fork", "signal", "kill", "exit",
+    "osetlk", "osetlkw", "flock", "fork", "signal", "kill", "exit", "enter", "leave", "bail",
 ];
 
 /// What a command of this name has behind it.
@@ -192,7 +197,9 @@ pub fn shape_of_command(name: &str) -> Option<Shape> {
         "getlk" | "setlk" | "setlkw" | "ogetlk" | "osetlk" | "osetlkw" => Some(lock_shape()),
         "flock" => Some(flock_shape()),
         "fork" | "signal" | "kill" => Some(Shape::of("PROCESS", &[Argument::Process])),
-        "exit" => Some(Shape::of("", &[])),
+        "exit" | "bail" => Some(Shape::of("", &[])),
+        "enter" => Some(enter_shape()),
+        "leave" => Some(Shape::of("SECTION", &[Argument::Section])),
         _ => None,
     }
 }
@@ -223,6 +230,15 @@ fn flock_shape() -> Shape {
             Argument::NonBlocking,
         ],
         required: 2,
+    }
+}
+
+/// What enter has behind it.
+fn enter_shape() -> Shape {
+    Shape {
+        usage: "SECTION [sh]",
+        arguments: &[Argument::Section, Argument::Shared],
+        required: 1,
     }
 }
 

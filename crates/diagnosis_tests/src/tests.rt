@@ -178,49 +178,49 @@ const HEADERS_AND_COMMANDS: [Row; 16] = [
     // A command.
     (
         b"1\n",
-        "f:1:2: read the end of the line; expected a command: open, dup, dup2, close, seek, resize, getlk, setlk, setlkw, ogetlk, osetlk, osetlkw, flock, fork, signal, kill or exit",
+        "f:1:2: read the end of the line; expected a command: open, dup, dup2, close, seek, resize, getlk, setlk, setlkw, ogetlk, osetlk, osetlkw, flock, fork, signal, kill, exit, enter, leave or bail",
         "1",
         " ^",
     ),
     (
         b"1  \n",
-        "f:1:4: read the end of the line; expected a command: open, dup, dup2, close, seek, resize, getlk, setlk, setlkw, ogetlk, osetlk, osetlkw, flock, fork, signal, kill or exit",
+        "f:1:4: read the end of the line; expected a command: open, dup, dup2, close, seek, resize, getlk, setlk, setlkw, ogetlk, osetlk, osetlkw, flock, fork, signal, kill, exit, enter, leave or bail",
         "1  ",
         "   ^",
     ),
     (
         b"1 setlkv 0 w set 0 0\n",
-        "f:1:3: read \"setlkv\"; expected a command: open, dup, dup2, close, seek, resize, getlk, setlk, setlkw, ogetlk, osetlk, osetlkw, flock, fork, signal, kill or exit; did you mean \"setlk\"?",
+        "f:1:3: read \"setlkv\"; expected a command: open, dup, dup2, close, seek, resize, getlk, setlk, setlkw, ogetlk, osetlk, osetlkw, flock, fork, signal, kill, exit, enter, leave or bail; did you mean \"setlk\"?",
         "1 setlkv 0 w set 0 0",
         "  ^",
     ),
     (
         b"1 lock 0\n",
-        "f:1:3: read \"lock\"; expected a command: open, dup, dup2, close, seek, resize, getlk, setlk, setlkw, ogetlk, osetlk, osetlkw, flock, fork, signal, kill or exit; did you mean \"flock\"?",
+        "f:1:3: read \"lock\"; expected a command: open, dup, dup2, close, seek, resize, getlk, setlk, setlkw, ogetlk, osetlk, osetlkw, flock, fork, signal, kill, exit, enter, leave or bail; did you mean \"flock\"?",
         "1 lock 0",
         "  ^",
     ),
     (
         b"1 opne 0 rw\n",
-        "f:1:3: read \"opne\"; expected a command: open, dup, dup2, close, seek, resize, getlk, setlk, setlkw, ogetlk, osetlk, osetlkw, flock, fork, signal, kill or exit; did you mean \"open\"?",
+        "f:1:3: read \"opne\"; expected a command: open, dup, dup2, close, seek, resize, getlk, setlk, setlkw, ogetlk, osetlk, osetlkw, flock, fork, signal, kill, exit, enter, leave or bail; did you mean \"open\"?",
         "1 opne 0 rw",
         "  ^",
     ),
     (
         b"1 OPEN 0 rw\n",
-        "f:1:3: read \"OPEN\"; expected a command: open, dup, dup2, close, seek, resize, getlk, setlk, setlkw, ogetlk, osetlk, osetlkw, flock, fork, signal, kill or exit; did you mean \"open\"?",
+        "f:1:3: read \"OPEN\"; expected a command: open, dup, dup2, close, seek, resize, getlk, setlk, setlkw, ogetlk, osetlk, osetlkw, flock, fork, signal, kill, exit, enter, leave or bail; did you mean \"open\"?",
         "1 OPEN 0 rw",
         "  ^",
     ),
     (
         b"1 sigmal 1\n",
-        "f:1:3: read \"sigmal\"; expected a command: open, dup, dup2, close, seek, resize, getlk, setlk, setlkw, ogetlk, osetlk, osetlkw, flock, fork, signal, kill or exit; did you mean \"signal\"?",
+        "f:1:3: read \"sigmal\"; expected a command: open, dup, dup2, close, seek, resize, getlk, setlk, setlkw, ogetlk, osetlk, osetlkw, flock, fork, signal, kill, exit, enter, leave or bail; did you mean \"signal\"?",
         "1 sigmal 1",
         "  ^",
     ),
     (
         b"1 fcntl 0\n",
-        "f:1:3: read \"fcntl\"; expected a command: open, dup, dup2, close, seek, resize, getlk, setlk, setlkw, ogetlk, osetlk, osetlkw, flock, fork, signal, kill or exit",
+        "f:1:3: read \"fcntl\"; expected a command: open, dup, dup2, close, seek, resize, getlk, setlk, setlkw, ogetlk, osetlk, osetlkw, flock, fork, signal, kill, exit, enter, leave or bail",
         "1 fcntl 0",
         "  ^",
     ),
@@ -334,6 +334,40 @@ const COUNTS_AND_NUMBERS: [Row; 17] = [
     ),
 ];
 
+/// Faulty visits to sections, and a bail with an argument.
+const SECTIONS: [Row; 5] = [
+    (
+        b"1 enter 64\n",
+        "f:1:9: read \"64\"; expected SECTION, a number 0 to 63",
+        "1 enter 64",
+        "        ^",
+    ),
+    (
+        b"1 enter\n",
+        "f:1:8: read the end of the line; expected SECTION, a number 0 to 63: enter SECTION [sh]",
+        "1 enter",
+        "       ^",
+    ),
+    (
+        b"1 enter 0 ex\n",
+        "f:1:11: read \"ex\"; expected VISIT, sh",
+        "1 enter 0 ex",
+        "          ^",
+    ),
+    (
+        b"1 leave 0 sh\n",
+        "f:1:11: read \"sh\"; expected nothing more: leave SECTION",
+        "1 leave 0 sh",
+        "          ^",
+    ),
+    (
+        b"1 bail 0\n",
+        "f:1:8: read \"0\"; expected nothing more: bail",
+        "1 bail 0",
+        "       ^",
+    ),
+];
+
 /// The same with another faulty word, a comment behind a request, or without a fault.
 const WORDS_AND_COMMENTS: [Row; 12] = [
     // A word.
@@ -400,7 +434,7 @@ const WORDS_AND_COMMENTS: [Row; 12] = [
     ),
     (
         b"1 fcntl # x\n",
-        "f:1:3: read \"fcntl\"; expected a command: open, dup, dup2, close, seek, resize, getlk, setlk, setlkw, ogetlk, osetlk, osetlkw, flock, fork, signal, kill or exit",
+        "f:1:3: read \"fcntl\"; expected a command: open, dup, dup2, close, seek, resize, getlk, setlk, setlkw, ogetlk, osetlk, osetlkw, flock, fork, signal, kill, exit, enter, leave or bail",
         "1 fcntl # x",
         "  ^",
     ),
@@ -732,6 +766,18 @@ fn scripts_with_processes_and_bytes(rt: HostRuntime) -> Result<(), Fail> {
 #[test]
 fn scripts_with_headers_and_commands(rt: HostRuntime) -> Result<(), Fail> {
     for (bytes, told, shown, caret) in HEADERS_AND_COMMANDS {
+        let fault = fault_of_script(rt.alloc(), bytes);
+        let seen = told_behind(rt.alloc(), Language::Script, bytes, fault)?;
+        let due = due(rt.alloc(), told, shown, caret)?;
+        assert_eq!(rt; seen.as_str(), due.as_str());
+    }
+    Ok(())
+}
+
+/// So it is with these.
+#[test]
+fn scripts_with_sections(rt: HostRuntime) -> Result<(), Fail> {
+    for (bytes, told, shown, caret) in SECTIONS {
         let fault = fault_of_script(rt.alloc(), bytes);
         let seen = told_behind(rt.alloc(), Language::Script, bytes, fault)?;
         let due = due(rt.alloc(), told, shown, caret)?;

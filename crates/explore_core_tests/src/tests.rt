@@ -1,7 +1,7 @@
 //! Keys of standings that are one situation, and of some that differ in one thing.
 use explore_core::{Scope, key_of};
 use fd_table::{Access, Limits};
-use lock_manager::{FlockOp, LkCmd, Lock, Manager, Request, Rules};
+use lock_manager::{FlockOp, LkCmd, Lock, Manager, Request, Rules, Visit};
 use range_core::{Kind, Memory, Whence};
 use std::alloc::Global;
 use std::process::Abort;
@@ -15,6 +15,8 @@ const SCOPE: Scope = Scope {
     },
     processes: 3,
     files: 2,
+    sections: 2,
+    bails: true,
 };
 
 /// Two children beside process 1.
@@ -78,8 +80,19 @@ fn are_one(
     one: &[(u8, Request)],
     other: &[(u8, Request)],
 ) -> Result<bool, Memory> {
-    let key = key_behind(rt, alloc, &SCOPE, &[&FAMILY, one])?;
-    let another = key_behind(rt, alloc, &SCOPE, &[&FAMILY, other])?;
+    are_one_in(rt, alloc, &SCOPE, one, other)
+}
+
+/// The same, of a script that names this.
+fn are_one_in(
+    rt: &impl Abort,
+    alloc: Global,
+    scope: &Scope,
+    one: &[(u8, Request)],
+    other: &[(u8, Request)],
+) -> Result<bool, Memory> {
+    let key = key_behind(rt, alloc, scope, &[&FAMILY, one])?;
+    let another = key_behind(rt, alloc, scope, &[&FAMILY, other])?;
     Ok(key.as_slice() == another.as_slice())
 }
 
@@ -121,6 +134,42 @@ fn sharing_is_told(rt: HostRuntime) -> Result<(), Memory> {
     Ok(())
 }
 
+/// Who is in which section is told, by whichever visit, and not how that came about.
+#[test]
+fn sections_are_told(rt: HostRuntime) -> Result<(), Memory> {
+    let alloc = rt.alloc();
+    let enter = |p, section, visit| [(p, Request::Enter { section, visit })];
+    let sole = enter(2, 0, Visit::Sole);
+    assert!(rt; !are_one(&rt, alloc, &sole, &enter(2, 0, Visit::Shared))?);
+    assert!(rt; !are_one(&rt, alloc, &sole, &enter(2, 1, Visit::Sole))?);
+    assert!(rt; !are_one(&rt, alloc, &sole, &enter(3, 0, Visit::Sole))?);
+    let both = [sole[0], enter(3, 0, Visit::Sole)[0]];
+    let turned = [both[1], both[0]];
+    assert!(rt; are_one(&rt, alloc, &both, &turned)?);
+    Ok(())
+}
+
+/// Whose last answer was an error is told where the script has a bail, and else it isn't.
+#[test]
+fn refusals_are_told(rt: HostRuntime) -> Result<(), Memory> {
+    let alloc = rt.alloc();
+    let refused = [
+        (2, Request::CloseFd { fd: 0 }),
+        (2, Request::Leave { section: 0 }),
+    ];
+    let answered = [
+        (2, Request::Leave { section: 0 }),
+        (2, Request::Signal { target: 2 }),
+    ];
+    assert!(rt; !are_one(&rt, alloc, &refused, &answered)?);
+    let heedless = Scope {
+        bails: false,
+        ..SCOPE
+    };
+    assert!(rt; are_one_in(&rt, alloc, &heedless, &refused, &answered)?);
+    Ok(())
+}
+
 /// Two wait for the byte that a third has: who came first is told.
 #[test]
 fn the_order_of_waits_is_told(rt: HostRuntime) -> Result<(), Memory> {
@@ -152,6 +201,8 @@ fn many_descriptors(rt: HostRuntime) -> Result<(), Memory> {
         },
         processes: 64,
         files: 64,
+        sections: 64,
+        bails: true,
     };
     let alloc = rt.alloc();
     let mut requests = Vec::new(alloc);
@@ -160,7 +211,8 @@ fn many_descriptors(rt: HostRuntime) -> Result<(), Memory> {
         requests.push((p, Request::Fork { child: p + 1 }))?;
     }
     let key = key_behind(&rt, alloc, &scope, &[&requests])?;
-    // Process p has p descriptors, and process 64 has 63: at least three numbers each; and 64 files have a size and 64 lists of locks.
-    assert!(rt; key.len() > (63 * 64 / 2 + 63) * 3 + 64 * 65);
+    // Process p has p descriptors, and process 64 has 63: at least three numbers each; 64 files have a size and 64 lists of locks; and 64
+    // processes are in one or none of 64 sections.
+    assert!(rt; key.len() > (63 * 64 / 2 + 63) * 3 + 64 * 65 + 64 * 64);
     Ok(())
 }

@@ -32,9 +32,10 @@ use std::alloc::Global;
 use wait_core::Policy;
 
 /// All findings, in the order in which they are told.
-const FINDINGS: [Finding; 8] = [
+const FINDINGS: [Finding; 9] = [
     Finding::Deadlock,
     Finding::Stuck,
+    Finding::Together,
     Finding::Dropped,
     Finding::Lost,
     Finding::Busy,
@@ -45,7 +46,7 @@ const FINDINGS: [Finding; 8] = [
 
 /// What comes of a search of which none of these findings is to be found.
 pub fn outcome_of(fail_on: &[Finding], explored: &Explored) -> ExploreOutcome
-    requires { length explored.now.runs.items ≡ 8 }
+    requires { length explored.now.runs.items ≡ 9 }
     ensures { IsOutcomeOf fail_on.now explored.now result }
 {
     for finding in fail_on {
@@ -68,7 +69,7 @@ pub fn printed_text(
     printed: Printed,
 ) -> Result<Vec<u8>, Memory>
     requires few { length script.now.arrivals ≤ SCRIPT_MAX + 1 }
-    requires runs { length explored.now.runs.items ≡ 8 }
+    requires runs { length explored.now.runs.items ≡ 9 }
     requires told { (finding : Finding) → IsTold script.now explored.now.is_complete finding (run_by explored.now finding) }
     ensures { IfOk result (λ text. IsPrintedOf script.now explored.now printed text.items) }
 {
@@ -81,7 +82,7 @@ pub fn printed_text(
 /// What is told of each finding, the counts, and the runs.
 fn whole_text(alloc: Global, script: &Script, explored: &Explored) -> Result<Vec<u8>, Memory>
     requires few { length script.now.arrivals ≤ SCRIPT_MAX + 1 }
-    requires runs { length explored.now.runs.items ≡ 8 }
+    requires runs { length explored.now.runs.items ≡ 9 }
     requires told { (finding : Finding) → IsTold script.now explored.now.is_complete finding (run_by explored.now finding) }
     ensures { IfOk result (λ text. IsPrintedOf script.now explored.now Printed.Table text.items) }
 {
@@ -100,7 +101,7 @@ fn text_alone(
     states: States,
 ) -> Result<Vec<u8>, Memory>
     requires few { length script.now.arrivals ≤ SCRIPT_MAX + 1 }
-    requires runs { length explored.now.runs.items ≡ 8 }
+    requires runs { length explored.now.runs.items ≡ 9 }
     requires told { IsTold script.now explored.now.is_complete finding (run_by explored.now finding) }
     ensures { IfOk result (λ text. IsPrintedOf script.now explored.now (Printed.RunOf finding states) text.items) }
 {
@@ -112,7 +113,7 @@ fn text_alone(
 /// Appends what is told of each finding, and the counts.
 #[tactic(auto, using(crate::proofs::TextLemmas::joined_four))]
 fn push_table(text: &mut Vec<u8>, explored: &Explored) -> Result<(), Memory>
-    requires { length explored.now.runs.items ≡ 8 }
+    requires { length explored.now.runs.items ≡ 9 }
     ensures { OnOk result (text.new.items ≡ text.old.items ++ table_text explored.now) }
 {
     push_findings(text, explored)?;
@@ -123,7 +124,7 @@ fn push_table(text: &mut Vec<u8>, explored: &Explored) -> Result<(), Memory>
 
 /// Appends what is told of each finding.
 fn push_findings(text: &mut Vec<u8>, explored: &Explored) -> Result<(), Memory>
-    requires { length explored.now.runs.items ≡ 8 }
+    requires { length explored.now.runs.items ≡ 9 }
     ensures { OnOk result (text.new.items ≡ text.old.items ++ flat_map (finding_line explored.now) all_findings) }
 {
     for finding in FINDINGS {
@@ -157,7 +158,7 @@ fn push_runs(
     explored: &Explored,
 ) -> Result<(), Memory>
     requires few { length script.now.arrivals ≤ SCRIPT_MAX + 1 }
-    requires runs { length explored.now.runs.items ≡ 8 }
+    requires runs { length explored.now.runs.items ≡ 9 }
     requires told { (finding : Finding) → IsTold script.now explored.now.is_complete finding (run_by explored.now finding) }
     ensures { OnOk result ((more : List ℕ) × AreRunsPrinted script.now explored.now all_findings more × (text.new.items ≡ text.old.items ++ more)) }
 {
@@ -199,7 +200,7 @@ fn push_run_alone(
     states: States,
 ) -> Result<(), Memory>
     requires few { length script.now.arrivals ≤ SCRIPT_MAX + 1 }
-    requires runs { length explored.now.runs.items ≡ 8 }
+    requires runs { length explored.now.runs.items ≡ 9 }
     requires told { IsTold script.now explored.now.is_complete finding (run_by explored.now finding) }
     ensures { OnOk result ((more : List ℕ) × IsRunAlone states script.now finding (run_by explored.now finding) more × (text.new.items ≡ text.old.items ++ more)) }
 {
@@ -275,7 +276,7 @@ fn push_end(
 
 /// The run that is told for the finding, if one was found.
 fn run_in(explored: &Explored, finding: Finding) -> Option<&[u8]>
-    requires { length explored.now.runs.items ≡ 8 }
+    requires { length explored.now.runs.items ≡ 9 }
     ensures { option_map (λ run. run.now) result ≡ run_by explored.now finding }
 {
     match &explored.runs[finding as usize] {

@@ -14,6 +14,7 @@ pub fn word_of(finding: Finding) -> &'static str
     match finding {
         Finding::Deadlock => "deadlock",
         Finding::Stuck => "stuck",
+        Finding::Together => "together",
         Finding::Dropped => "dropped",
         Finding::Lost => "lost",
         Finding::Busy => "busy",
@@ -30,6 +31,7 @@ pub fn finding_of(word: &str) -> Option<Finding>
     match word {
         "deadlock" => Some(Finding::Deadlock),
         "stuck" => Some(Finding::Stuck),
+        "together" => Some(Finding::Together),
         "dropped" => Some(Finding::Dropped),
         "lost" => Some(Finding::Lost),
         "busy" => Some(Finding::Busy),

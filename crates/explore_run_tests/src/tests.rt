@@ -1,5 +1,5 @@
 //! What is printed of searches whose situations are counted by hand, from the bytes of a script on.
-ghost use Rattle.std.specs.Prelude.{◌≤◌};
+ghost use Rattle.std.specs.Prelude.{◌≤◌, length};
 
 use explore_core::Finding;
 use explore_run::{ExploreOutcome, Exploring, Nobody, Printed, explore_script};
@@ -40,6 +40,13 @@ fn is_legal(alloc: Global, text: &[u8]) -> Result<bool, Fail> {
     Ok(matches!(outcome, Outcome::Done))
 }
 
+/// Whether the piece stands in the text.
+fn holds(text: &[u8], piece: &[u8]) -> bool
+    requires { 1 ≤ length piece.now }
+{
+    text.windows(piece.len()).any(|window| window == piece)
+}
+
 /// Two processes take two bytes in opposite order, and wait.
 const CROSSED: &[u8] = b"1 open 0 rw
 1 fork 2
@@ -54,6 +61,7 @@ const CROSSED: &[u8] = b"1 open 0 rw
 /// the other one is told `EDEADLK`: two situations more, and two ends, after six events.
 const CROSSED_TOLD: &[u8] = b"deadlock possible in 6 events
 stuck possible in 5 events
+together never
 dropped never
 lost never
 busy never
@@ -111,6 +119,7 @@ fn nothing_fails(rt: HostRuntime) -> Result<(), Fail> {
 /// events at least.
 const LIMITED_TOLD: &[u8] = b"deadlock not found in 5 situations
 stuck not found in 5 situations
+together not found in 5 situations
 dropped not found in 5 situations
 lost not found in 5 situations
 busy not found in 5 situations
@@ -127,6 +136,110 @@ fn limited(rt: HostRuntime) -> Result<(), Fail> {
     let (outcome, text) = explore(&rt, rt.alloc(), CROSSED, 5, Printed::Table, &fail_on)?;
     assert!(rt; text.as_slice().starts_with(LIMITED_TOLD));
     assert_eq!(rt; outcome.status(), 4);
+    Ok(())
+}
+
+/// Two processes ask for one byte, and each that was refused it bails; who has it enters.
+const APART: &[u8] = b"1 open 0 rw
+1 fork 2
+1 setlk 0 w set 0 1
+1 bail
+1 enter 0
+2 setlk 0 w set 0 1
+2 bail
+2 enter 0
+";
+
+/// What is printed of it. Three situations come before one has the byte. Behind these it has asked, is past its bail, or is in the section,
+/// and the other one hasn't asked, was refused, or has ended: nine, and as many where the other has it. Each of the two ends has seven
+/// events.
+const APART_TOLD: &[u8] = b"deadlock never
+stuck never
+together never
+dropped never
+lost never
+busy possible in 4 events
+interrupted never
+killed never
+unborn never
+situations 21
+ends 2
+longest 7
+";
+
+/// Who bails lets nobody in beside the one that has the lock.
+#[test]
+fn apart(rt: HostRuntime) -> Result<(), Fail> {
+    let fail_on = [Finding::Together];
+    let (outcome, text) = explore(&rt, rt.alloc(), APART, 21, Printed::Table, &fail_on)?;
+    assert_eq!(rt; text.as_slice(), APART_TOLD);
+    assert_eq!(rt; outcome.status(), 0);
+    Ok(())
+}
+
+/// The same without bails: who was refused goes on.
+const LET_IN: &[u8] = b"1 open 0 rw
+1 fork 2
+1 setlk 0 w set 0 1
+1 enter 0
+2 setlk 0 w set 0 1
+2 enter 0
+";
+
+/// What is printed of it. Where one has the byte it has asked or is in the section, and the other one hasn't asked, was refused, or is in
+/// the section: six, and as many where the other has it.
+const LET_IN_TOLD: &[u8] = b"deadlock never
+stuck never
+together possible in 6 events
+dropped never
+lost never
+busy possible in 4 events
+interrupted never
+killed never
+unborn never
+situations 15
+ends 2
+longest 6
+# together
+1#1 open 0 rw | 1#1 fd 0
+1#2 fork 2 | 1#2 ok
+1#3 setlk 0 w set 0 1 | 1#3 ok
+1#4 enter 0 | 1#4 ok
+2#1 setlk 0 w set 0 1 | 2#1 EAGAIN
+# 2#1 blocked by lock 0 process 1 w 0 0
+2#2 enter 0 | 2#2 ok
+# 2#2 together with 1 in 0
+";
+
+/// Where nobody bails both are let in, which is to fail.
+#[test]
+fn let_in(rt: HostRuntime) -> Result<(), Fail> {
+    let fail_on = [Finding::Together];
+    let (outcome, text) = explore(&rt, rt.alloc(), LET_IN, 15, Printed::Table, &fail_on)?;
+    assert_eq!(rt; text.as_slice(), LET_IN_TOLD);
+    assert_eq!(rt; outcome.status(), 3);
+    Ok(())
+}
+
+/// Two processes visit a section, process 2 by the one visit or by the other.
+const SHARED: &[u8] = b"1 fork 2\n1 enter 0 sh\n1 leave 0\n2 enter 0 sh\n2 leave 0\n";
+
+const SOLE: &[u8] = b"1 fork 2\n1 enter 0 sh\n1 leave 0\n2 enter 0\n2 leave 0\n";
+
+/// Shared visits may be together, and a sole one not even with one of these. Each process is yet to be in the section, is, or was.
+#[test]
+fn visits(rt: HostRuntime) -> Result<(), Fail> {
+    for (script, told) in [
+        (SHARED, "deadlock never\nstuck never\ntogether never\n"),
+        (
+            SOLE,
+            "deadlock never\nstuck never\ntogether possible in 3 events\n",
+        ),
+    ] {
+        let (_, text) = explore(&rt, rt.alloc(), script, 100, Printed::Table, &[])?;
+        assert!(rt; text.as_slice().starts_with(told.as_bytes()));
+        assert!(rt; holds(text.as_slice(), b"\nsituations 10\nends 1\nlongest 5\n"));
+    }
     Ok(())
 }
 
@@ -150,14 +263,7 @@ fn runs_alone(rt: HostRuntime) -> Result<(), Fail> {
         assert_eq!(rt; text.iter().filter(|byte| **byte == b'\n').count(), lines);
         assert!(rt; is_legal(rt.alloc(), &text)?);
     }
-    let (_, text) = explore(
-        &rt,
-        rt.alloc(),
-        CROSSED,
-        1000,
-        run_of(Finding::Lost),
-        &[],
-    )?;
+    let (_, text) = explore(&rt, rt.alloc(), CROSSED, 1000, run_of(Finding::Lost), &[])?;
     assert!(rt; text.is_empty());
     Ok(())
 }
@@ -177,6 +283,7 @@ fn long_script(alloc: Global) -> Result<String, AllocError> {
 /// be, whatever the other one does. All runs end in one, behind 2 + 400 + 3 events.
 const LONG_TABLE: &str = "deadlock never
 stuck never
+together never
 dropped never
 lost never
 busy never

@@ -9,7 +9,7 @@ ghost use Rattle.wait_core.specs.WellFormed.{IsWellFormed};
 use self::told::{Refusal, Told};
 use fd_table::{Look, Tables};
 use lock_book::{Book, Held, Owner};
-use lock_manager::{Errno, Note, Reply, Request, Rules};
+use lock_manager::{Errno, Note, Reply, Request, Rules, SECTIONS, Visit};
 use range_core::Memory;
 use std::alloc::Global;
 use wait_core::{Family, Wait};
@@ -23,6 +23,10 @@ pub struct ListedMachine {
     books: Vec<Book>,
     waits: ListedWaits,
     ended: Vec<u8>,
+    /// Each process that is in a section, with this and its visit.
+    visits: Vec<(u8, u8, Visit)>,
+    /// The processes whose last answer was an error.
+    refused: Vec<u8>,
     ghost files: { vec_len books ≡ 64 },
 }
 
@@ -38,6 +42,8 @@ impl ListedMachine {
             books,
             waits: ListedWaits::new(alloc, rules.policy, processes),
             ended: Vec::new(alloc),
+            visits: Vec::new(alloc),
+            refused: Vec::new(alloc),
         })
     }
 
@@ -66,6 +72,7 @@ impl ListedMachine {
             notes.push(note)?;
         }
         notes.append(&mut others)?;
+        self.hear(&notes)?;
         Ok(notes)
     }
 
@@ -142,6 +149,14 @@ impl ListedMachine {
             Request::Exit => self.kill(p, p),
             Request::Signal { target } => self.signal(target, others),
             Request::Kill { target } => self.kill(p, target),
+            Request::Enter { section, visit } => self.enter(p, section, visit),
+            Request::Leave { section } => self.leave(p, section),
+            Request::Bail => {
+                if self.refused.contains(&p) {
+                    return self.kill(p, p);
+                }
+                Ok(Told::OK)
+            },
         }
     }
 
@@ -150,6 +165,56 @@ impl ListedMachine {
         ensures { IsTrue result → IsTrue (ever_alive self.now.tables p) }
     {
         self.tables.born(p) && !self.has_ended(p)
+    }
+
+    /// By which visit the process is in the section.
+    pub fn visit(&self, p: u8, section: u8) -> Option<Visit> {
+        let place = self.place_in(p, section)?;
+        Some(self.visits.get(place)?.2)
+    }
+
+    /// Whether the process is able, and its last answer was an error.
+    pub fn was_refused(&self, p: u8) -> bool {
+        self.is_able(p) && self.refused.contains(&p)
+    }
+
+    /// Where it stands among the visits.
+    fn place_in(&self, p: u8, section: u8) -> Option<usize> {
+        self.visits
+            .iter()
+            .position(|visit| visit.0 == p && visit.1 == section)
+    }
+
+    /// enter: of a section that there is, by a process that isn't in it.
+    fn enter(&mut self, p: u8, section: u8, visit: Visit) -> Result<Told, Refusal> {
+        if section >= SECTIONS || self.place_in(p, section).is_some() {
+            return Err(Refusal::Errno(Errno::EINVAL));
+        }
+        self.visits.push((p, section, visit)).map_err(Memory::from)?;
+        Ok(Told::OK)
+    }
+
+    /// leave: of a section in which the process is.
+    fn leave(&mut self, p: u8, section: u8) -> Result<Told, Refusal> {
+        if self.visit(p, section).is_none() {
+            return Err(Refusal::Errno(Errno::EINVAL));
+        }
+        self.visits
+            .retain(|visit| visit.0 != p || visit.1 != section);
+        Ok(Told::OK)
+    }
+
+    /// Each answer is the last one so far to its process.
+    fn hear(&mut self, notes: &[Note]) -> Result<(), Memory> {
+        for note in notes {
+            if let Note::Answer { p, reply, .. } = *note {
+                self.refused.retain(|q| *q != p);
+                if let Reply::Err(_) = reply {
+                    self.refused.push(p)?;
+                }
+            }
+        }
+        Ok(())
     }
 
     /// dup2: what the second descriptor was is closed.
@@ -196,6 +261,7 @@ impl ListedMachine {
         self.waits.remove(p);
         let released = self.tables.end_process(p);
         self.release(p, released.files(), released.descriptions());
+        self.visits.retain(|visit| visit.0 != p);
         self.ended.push(p)?;
         Ok(())
     }

@@ -15,6 +15,8 @@ use Rattle.lock_manager.specs.contracts.request.ProcState as state
 use Rattle.lock_manager.specs.contracts.request.Rules as policy
 use Rattle.lock_manager.specs.contracts.manager.Manager as manager
 use Rattle.lock_manager.specs.contracts.machine.Machine as machine
+use Rattle.lock_manager.specs.contracts.seat.Seat as seat
+use Rattle.lock_manager.specs.contracts.sections.Sections as sections
 
 tables_send : IsSend tables.the_row
 tables_send = search (sendable, crosses) depth 40
@@ -49,5 +51,11 @@ rules_send = search sendable depth 20
 machine_send : IsSend machine.the_row
 machine_send = search (book_send, tables_send, waits_send, state_send, rules_send, Vec-send, declared_send, as_row_send, sendable) depth 20
 
+seat_send : IsSend seat.the_row
+seat_send = search sendable depth 20
+
+sections_send : IsSend sections.the_row
+sections_send = search (seat_send, Vec-send, declared_send, as_row_send, tt) depth 20
+
 pub manager_send : IsSend manager.the_row
-manager_send = search (machine_send, send, declared_send, tt) depth 20
+manager_send = search (machine_send, sections_send, send, declared_send, tt) depth 20

@@ -24,7 +24,7 @@ use Rattle.lock_manager.specs.declared.request.FlockOp.{FlockOp}
 use Rattle.lock_manager.specs.declared.request.InTheWay.{InTheWay}
 use Rattle.lock_manager.specs.declared.request.InTheWay.TheVariants as obstacles
 use Rattle.lock_manager.specs.declared.request.Request.{Request}
-use Rattle.lock_manager.specs.declared.request.Request.TheVariants.{OpenFile, Dup, DupTo, CloseFd, Seek, Resize, Lk, Flock, Fork, Exit, Signal, Kill}
+use Rattle.lock_manager.specs.declared.request.Request.TheVariants.{OpenFile, Dup, DupTo, CloseFd, Seek, Resize, Lk, Flock, Fork, Exit, Signal, Kill, Enter, Leave, Bail}
 use Rattle.lock_manager.specs.State.{State}
 use Rattle.lock_manager.specs.LockWords.{wanted_mode, wanted_lock}
 use Rattle.lock_manager.specs.FlockCalls.{flock_wanted_mode, wanted_flock}
@@ -63,6 +63,9 @@ AsksFor S p n (Fork child) wait = ⊥
 AsksFor S p n Exit wait = ⊥
 AsksFor S p n (Signal target) wait = ⊥
 AsksFor S p n (Kill target) wait = ⊥
+AsksFor S p n (Enter section visit) wait = ⊥
+AsksFor S p n (Leave section) wait = ⊥
+AsksFor S p n Bail wait = ⊥
 
 -- the first of these of which this holds
 pub record IsFirstOf {X : Type 0} (Holds : X → Type 0) (xs : List X) (x : X) : Type 0 where

@@ -6,6 +6,9 @@ pub mod LockWords
 pub mod LockCommands
 pub mod FlockCalls
 pub mod ProcessCalls
+pub mod Sections
+pub mod SeatView
+pub mod SectionsView
 pub mod Replies
 pub mod Step
 pub mod Asking
@@ -20,3 +23,4 @@ pub mod Opening
 pub mod OneOutcome
 pub mod SomeOutcome
 pub mod SomeState
+pub mod SectionsApart

@@ -12,11 +12,13 @@ use Rattle.wait_core.specs.WaitsView.{waits_of}
 use Rattle.lock_manager.specs.declared.request.Rules.{Rules}
 use Rattle.lock_manager.specs.declared.request.ProcState.{ProcState}
 use Rattle.lock_manager.specs.declared.machine.Machine.{Machine}
+use Rattle.lock_manager.specs.declared.sections.Sections.{Sections}
 use Rattle.lock_manager.specs.declared.request.Request.{Request}
 use Rattle.lock_manager.specs.declared.request.Reply.{Reply}
 use Rattle.lock_manager.specs.declared.request.Note.{Note}
 use Rattle.lock_manager.specs.State.{State, state_numbered}
 use Rattle.lock_manager.specs.Outcomes.{answered}
+use Rattle.lock_manager.specs.SectionsView.{AreOf}
 use Rattle.lock_manager.specs.Step.{ComesTo}
 use Rattle.lock_manager.specs.WaitsKept.{has_place_at}
 use Rattle.lock_manager.specs.FlockCalls.{wanted_flock}
@@ -76,6 +78,12 @@ Answers old new p request reply =
 abbrev pub Tells : Machine → Machine → ℕ → ℕ → Request → List Note → Type 0
 Tells old new p n request told =
     (S : State) → Shows old S →
+    (T : State) × ComesTo (machine_rules old) (machine_processes old) S p n request (record { told = told; after = T }) × Shows new T
+
+-- the same, where the table says who is in which section and whose last answer was an error
+abbrev pub TellsBy : Sections → Machine → Machine → ℕ → ℕ → Request → List Note → Type 0
+TellsBy sections old new p n request told =
+    (S : State) → Shows old S → AreOf sections S →
     (T : State) × ComesTo (machine_rules old) (machine_processes old) S p n request (record { told = told; after = T }) × Shows new T
 
 -- each process that lives in old lives in new

@@ -1,5 +1,5 @@
 -- Which states a `Manager` stands for (the words are this project's choice).
-use Rattle.std.specs.Prelude.{◌≡◌, ℕ, List}
+use Rattle.std.specs.Prelude.{◌≡◌, ℕ, Bool, Option, List}
 use Rattle.lock_book.specs.declared.Owner.{Owner}
 use Rattle.lock_book.specs.Changes.{mode_in, flock_mode_in}
 use Rattle.fd_table.specs.TablesView.{StandFor}
@@ -9,10 +9,12 @@ use Rattle.lock_manager.specs.declared.request.Rules.{Rules}
 use Rattle.lock_manager.specs.declared.request.Request.{Request}
 use Rattle.lock_manager.specs.declared.request.Note.{Note}
 use Rattle.lock_manager.specs.declared.request.ProcState.{ProcState}
+use Rattle.lock_manager.specs.declared.request.Visit.{Visit}
 use Rattle.lock_manager.specs.declared.manager.Manager.{Manager}
 use Rattle.lock_manager.specs.State.{State}
 use Rattle.lock_manager.specs.Step.{Step}
 use Rattle.lock_manager.specs.MachineView.{machine_rules, machine_processes, machine_state, machine_locks, machine_waits}
+use Rattle.lock_manager.specs.SectionsView.{visit_in, refused_in}
 use Rattle.lock_manager.specs.Safety.{IsSafe}
 
 -- the rules of the manager
@@ -35,13 +37,24 @@ locks_in_books manager = machine_locks manager.machine
 unfoldable pub waits_of : Manager → List Wait
 waits_of manager = machine_waits manager.machine
 
--- the manager stands for the state: they have the same modes, descriptors, waits and process states
+-- by which visit a process is in a section
+unfoldable pub visit_at : Manager → ℕ → ℕ → Option Visit
+visit_at manager p section = visit_in manager.sections p section
+
+-- whether the last answer to a process that lives was an error
+unfoldable pub refused_at : Manager → ℕ → Bool
+refused_at manager p = refused_in manager.sections p
+
+-- the manager stands for the state: they have the same modes, descriptors, waits and process states, the same processes are in the same
+-- sections, and the same were told an error last
 pub record StandsFor (manager : Manager) (S : State) : Type 0 where
   pub bytes : (file : ℕ) (owner : Owner) (byte : ℕ) → (locks_in_books manager).bytes file owner byte ≡ mode_in S.changes file owner byte
   pub flocks : (file description : ℕ) → (locks_in_books manager).flocks file description ≡ flock_mode_in S.flock_changes file description
   pub descriptors : StandFor manager.machine.tables S.descriptors
   pub waits : waits_of manager ≡ S.waits
   pub states : (p : ℕ) → state_at manager p ≡ S.states p
+  pub visits : (p section : ℕ) → visit_at manager p section ≡ S.visits p section
+  pub refused : (p : ℕ) → refused_at manager p ≡ S.refused p
 
 -- new stands for each state that old stands for, each process stands where it stood, and the rules are the same
 pub record SameManager (old new : Manager) : Type 0 where

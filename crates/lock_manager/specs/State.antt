@@ -1,5 +1,5 @@
 -- The state of the lock manager.
-use Rattle.std.specs.Prelude.{◌≡◌, ◌≤◌, ◌↔◌, IsTrue, ℕ, zero, suc, ◌==◌, if◌then◌else◌, Option, Some, List, [], ◌∷◌, ◌++◌, slice_get, unwrap_or}
+use Rattle.std.specs.Prelude.{◌≡◌, ◌≤◌, ◌↔◌, IsTrue, ℕ, zero, suc, ◌==◌, if◌then◌else◌, Bool, false, Option, Some, None, List, [], ◌∷◌, ◌++◌, slice_get, unwrap_or}
 use Rattle.range_core.specs.declared.Mode.{Mode}
 use Rattle.range_core.specs.declared.Span.{Span}
 use Rattle.lock_book.specs.declared.Owner.{Owner}
@@ -14,15 +14,22 @@ use Rattle.wait_core.specs.Locks.{Locks, locks_in}
 use Rattle.wait_core.specs.Processes.{is_member}
 use Rattle.lock_manager.specs.declared.request.ProcState.{ProcState}
 use Rattle.lock_manager.specs.declared.request.ProcState.TheVariants.{Unborn, Live, Waiting}
+use Rattle.lock_manager.specs.declared.request.Visit.{Visit}
+
+-- by which visit a process is in a section, if it is (this project's choice)
+abbrev pub Visits : Type 0
+Visits = ℕ → ℕ → Option Visit
 
 -- all accepted changes of byte locks and of flock locks, the oldest first; the descriptors; the waits in order of arrival;
--- and where each process stands (this project's choice)
+-- where each process stands; who is in which section; and which of those that live were told an error last (this project's choice)
 pub record State : Type 0 where
   pub changes : List Change
   pub flock_changes : List FlockChange
   pub descriptors : Descriptors
   pub waits : List Wait
   pub states : ℕ → ProcState
+  pub visits : Visits
+  pub refused : ℕ → Bool
 
 -- the locks that are held in a state (POSIX.1-2017 fcntl; flock(2))
 abbrev pub locks_held : State → Locks
@@ -31,7 +38,15 @@ locks_held S = locks_in S.changes S.flock_changes
 -- at the opening process 1 lives, and there is nothing else (this project's choice)
 unfoldable pub opening_state : State
 opening_state =
-    record { changes = []; flock_changes = []; descriptors = opening_descriptors; waits = []; states = λ p. if p == 1 then Live else Unborn }
+    record {
+      changes = [];
+      flock_changes = [];
+      descriptors = opening_descriptors;
+      waits = [];
+      states = λ p. if p == 1 then Live else Unborn;
+      visits = λ p section. None;
+      refused = λ p. false;
+    }
 
 -- the process with number p stands at place p - 1
 abbrev pub state_numbered : List ProcState → ℕ → ProcState

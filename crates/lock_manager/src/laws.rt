@@ -1,6 +1,7 @@
 //! Laws of the definition of a step, and of what a manager stands for. Each is the contract of a function that does nothing.
 ghost use Rattle.lock_manager.specs.OneOutcome.{StepHasOneOutcome};
 ghost use Rattle.lock_manager.specs.SomeOutcome.{StepHasSomeOutcome};
+ghost use Rattle.lock_manager.specs.SectionsApart.{SectionsChangeNothingElse};
 ghost use Rattle.lock_manager.specs.SomeState.{ManagersStandForSome};
 
 use fd_table::tables_stand_for_some;
@@ -28,3 +29,9 @@ pub fn managers_stand_for_some()
     tables_stand_for_some();
     books_stand_for_some();
 }
+
+/// Sections change nothing else: whoever is in which section, and was told an error last, any request but `enter`, `leave` and `bail` makes
+/// the same notes, and leaves the same locks, descriptors, waits and process states.
+pub fn sections_change_nothing_else()
+    ensures { SectionsChangeNothingElse }
+{}

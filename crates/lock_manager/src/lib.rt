@@ -8,12 +8,19 @@ mod lock_words;
 // crates above.
 #[tactic(auto, unfolding(crate::specs::MachineView::machine_rules, crate::specs::MachineView::machine_processes, crate::specs::MachineView::machine_state, crate::specs::MachineView::machine_locks, crate::specs::MachineView::machine_waits))]
 mod machine;
-#[tactic(auto, unfolding(crate::specs::ManagerView::rules_of, crate::specs::ManagerView::processes_of, crate::specs::ManagerView::state_at, crate::specs::ManagerView::locks_in_books, crate::specs::ManagerView::waits_of))]
+#[tactic(auto, unfolding(crate::specs::ManagerView::rules_of, crate::specs::ManagerView::processes_of, crate::specs::ManagerView::state_at, crate::specs::ManagerView::locks_in_books, crate::specs::ManagerView::waits_of, crate::specs::ManagerView::visit_at, crate::specs::ManagerView::refused_at))]
 mod manager;
 mod opening;
 mod replies;
 mod request;
+mod seat;
+mod sections;
 
-pub use laws::{managers_stand_for_some, step_has_one_outcome, step_has_some_outcome};
+pub use laws::{
+    managers_stand_for_some, sections_change_nothing_else, step_has_one_outcome,
+    step_has_some_outcome,
+};
 pub use manager::Manager;
-pub use request::{Errno, FlockOp, InTheWay, LkCmd, Lock, Note, ProcState, Reply, Request, Rules};
+pub use request::{
+    Errno, FlockOp, InTheWay, LkCmd, Lock, Note, ProcState, Reply, Request, Rules, SECTIONS, Visit,
+};

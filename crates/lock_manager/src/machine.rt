@@ -14,7 +14,8 @@ mod process_calls;
 mod settling;
 
 use crate::opening::{empty_books, opening_states};
-use crate::replies::tell;
+use crate::replies::{allowed, tell};
+use crate::sections::Sections;
 use crate::{Note, ProcState, Request, Rules};
 use fd_table::{FILES, Tables};
 use lock_book::{Book, Held};
@@ -49,7 +50,7 @@ impl Machine {
     ghost use Rattle.lock_book.specs.Changes.{mode_in, flock_mode_in};
     ghost use Rattle.lock_book.specs.Reports.{IsHeldReport};
     ghost use Rattle.lock_manager.specs.State.{AreWaiting, State, opening_state};
-    ghost use Rattle.lock_manager.specs.MachineView.{Shows, SameMachine, SameRules, Tells, machine_rules, machine_processes, machine_waits, machine_state};
+    ghost use Rattle.lock_manager.specs.MachineView.{Shows, SameMachine, SameRules, TellsBy, machine_rules, machine_processes, machine_waits, machine_state};
 
     /// Process 1 lives, and there is nothing else.
     pub fn new(alloc: Global, processes: u8, rules: Rules) -> Result<Machine, Memory>
@@ -114,6 +115,13 @@ impl Machine {
         self.waits.list().len() + 2
     }
 
+    /// Where each process stands, from process 1 on.
+    pub fn states(&self) -> &[ProcState]
+        ensures { result.now ≡ self.now.states.items }
+    {
+        &self.states
+    }
+
     /// Where the process stands: unborn where there is no such number.
     pub fn state_of(&self, p: u8) -> ProcState
         ensures state { result ≡ machine_state self.now p }
@@ -125,10 +133,12 @@ impl Machine {
         }
     }
 
-    /// Serves a request of a live process, but for the settling with which the event ends: the notes are told here.
+    /// Serves a request of a live process, where these are in sections and were refused, but for the settling with which the event ends:
+    /// the notes are told here. Who enters or leaves is marked elsewhere.
     #[tactic(auto, using(crate::proofs::calls::ReplyLemmas::untold_by, crate::proofs::calls::ReplyLemmas::few_by))]
     pub fn serve(
         &mut self,
+        sections: &Sections,
         p: u8,
         n: u64,
         request: Request,
@@ -139,7 +149,7 @@ impl Machine {
 
         // Each wait may be granted a note, and there is room for two more.
         requires room { length (machine_waits self.old) + 2 ≤ vec_capacity notes.old }
-        ensures told { OnOk result (Tells self.old self.new p n request notes.new.items) }
+        ensures told { OnOk result (TellsBy sections.now self.old self.new p n request notes.new.items) }
         ensures few { OnOk result (length notes.new.items + length (machine_waits self.new) ≤ vec_capacity notes.new) }
         ensures memory { OnErr result (SameMachine self.old self.new) }
         ensures same_rules { SameRules self.old self.new }
@@ -169,6 +179,18 @@ impl Machine {
             },
             Request::Kill { target } => {
                 self.kill(p, n, target, notes);
+                Ok(())
+            },
+            Request::Enter { section, .. } => {
+                notes.push_reserved(allowed(p, n, sections.may_enter(p, section)));
+                Ok(())
+            },
+            Request::Leave { section } => {
+                notes.push_reserved(allowed(p, n, sections.may_leave(p, section)));
+                Ok(())
+            },
+            Request::Bail => {
+                self.bail(p, n, sections.was_refused(p), notes);
                 Ok(())
             },
         }

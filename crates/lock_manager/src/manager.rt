@@ -1,5 +1,5 @@
 //! The lock manager: one event is one request and the settling after it.
-ghost use Rattle.std.specs.Prelude.{ℕ, ◌≡◌, ◌≢◌, ◌<◌, ◌≤◌, ◌↔◌, List, [], IfOk, IfSome, OnOk, OnErr, IsTrue, MatchOption};
+ghost use Rattle.std.specs.Prelude.{ℕ, ◌≡◌, vec_len, ◌≢◌, ◌<◌, ◌≤◌, ◌↔◌, List, [], IfOk, IfSome, OnOk, OnErr, IsTrue, MatchOption};
 ghost use Rattle.std.specs.Option.{option_copied};
 ghost use Rattle.fd_table.specs.declared.TheConstants.{FILES};
 ghost use Rattle.range_core.specs.Ranges.{IsByteRange};
@@ -7,21 +7,24 @@ ghost use Rattle.lock_book.specs.OwnerLists.{modes_in_list};
 ghost use Rattle.wait_core.specs.Blocking.{IsBlocked};
 ghost use Rattle.lock_manager.specs.Asking.{AsksFor, IsFirstInTheWay};
 ghost use Rattle.lock_manager.specs.Safety.{IsSafe};
-ghost use Rattle.lock_manager.specs.MachineView.{machine_rules, machine_locks, machine_waits};
+ghost use Rattle.lock_manager.specs.MachineView.{machine_rules, machine_processes, machine_locks, machine_waits};
 
 use crate::machine::Machine;
-use crate::{InTheWay, Note, ProcState, Request, Rules};
+use crate::sections::Sections;
+use crate::{InTheWay, Note, ProcState, Request, Rules, Visit};
 use fd_table::Look;
 use lock_book::{Held, Owner};
 use range_core::{Memory, Mode, RangeList};
 use std::alloc::Global;
 use wait_core::{ProcessSet, Wait};
 
-/// The lock manager: descriptors, locks and processes.
+/// The lock manager: descriptors, locks and processes, and who is in which section.
 #[derive(Drop)]
 pub struct Manager {
     alloc: Global,
     machine: Machine,
+    sections: Sections,
+    ghost seated: { vec_len sections.seats ≡ machine_processes machine },
     ghost safe: { ∥ IsSafe (machine_rules machine).policy (machine_locks machine) (machine_waits machine) ∥₁ },
 }
 
@@ -30,6 +33,7 @@ impl Manager {
     ghost use Rattle.lock_book.specs.Changes.{mode_in, flock_mode_in};
     ghost use Rattle.lock_book.specs.Reports.{IsHeldReport};
     ghost use Rattle.lock_manager.specs.State.{AreWaiting, State, locks_held, opening_state};
+    ghost use Rattle.lock_manager.specs.Sections.{is_together as is_together_of};
     ghost use Rattle.lock_manager.specs.ManagerView.{StandsFor, StepsBy, SameManager, IsSafeManager, rules_of, processes_of, state_at};
 
     /// Process 1 lives, and there is nothing else (this project's choice). There are `processes` processes, numbered from 1,
@@ -42,7 +46,12 @@ impl Manager {
         ensures safe { IfOk result IsSafeManager }
     {
         let machine = Machine::new(alloc, processes, rules)?;
-        Ok(Manager { alloc, machine })
+        let sections = Sections::new(alloc, processes)?;
+        Ok(Manager {
+            alloc,
+            machine,
+            sections,
+        })
     }
 
     /// One event: request number `n` of process `p`, which is able, with all that it causes. The caller's note stands first,
@@ -86,7 +95,8 @@ impl Manager {
     {
         notes.clear();
         notes.reserve(self.machine.most_notes())?;
-        self.machine.serve(p, n, request, notes)?;
+        self.machine.serve(&self.sections, p, n, request, notes)?;
+        self.sections.mark(p, request, notes, self.machine.states());
         self.machine.settle(notes);
         Ok(())
     }
@@ -164,6 +174,28 @@ impl Manager {
         ensures { (S : State) → StandsFor self.now S → result ≡ S.descriptors.sizes file }
     {
         self.machine.size_of(file)
+    }
+
+    /// By which visit the process is in the section; `None` where it isn't (this project's choice).
+    pub fn visit(&self, p: u8, section: u8) -> Option<Visit>
+        ensures { (S : State) → StandsFor self.now S → result ≡ S.visits p section }
+    {
+        self.sections.visit(p, section)
+    }
+
+    /// Whether process `q` is another one than `p`, and in the section, where one of its visit and this one of `p` is not shared (this
+    /// project's choice).
+    pub fn is_together(&self, p: u8, section: u8, visit: Visit, q: u8) -> bool
+        ensures { (S : State) → StandsFor self.now S → result ≡ is_together_of S.visits p section visit q }
+    {
+        q != p && visit.keeps_out(self.visit(q, section))
+    }
+
+    /// Whether the process lives and its last answer was an error, so that a bail would end it (this project's choice).
+    pub fn was_refused(&self, p: u8) -> bool
+        ensures { (S : State) → StandsFor self.now S → result ≡ S.refused p }
+    {
+        self.sections.was_refused(p)
     }
 
     /// How many processes there are, numbered from 1.

@@ -1,5 +1,5 @@
 //! What a request is answered, and how that is told.
-ghost use Rattle.std.specs.Prelude.{◌≡◌, ℕ, ◌≤◌, ◌+◌, length, vec_capacity, IfOk, OnErr};
+ghost use Rattle.std.specs.Prelude.{◌≡◌, ℕ, ◌≤◌, ◌+◌, if◌then◌else◌, length, vec_capacity, IfOk, OnErr};
 ghost use Rattle.lock_manager.specs.Outcomes.{range_error as range_error_of, IsRefusal, answered as answered_of};
 ghost use Rattle.lock_manager.specs.Replies.{IsReplied};
 ghost use Rattle.lock_manager.specs.State.{State};
@@ -44,6 +44,17 @@ pub fn refused(p: u8, n: u64, error: Errno) -> Note
     ensures { result ≡ Note.Answer p n (Reply.Err error) }
 {
     answered(p, n, Reply::Err(error))
+}
+
+/// Request number `n` of process `p` is answered, or refused with EINVAL where it isn't allowed.
+pub fn allowed(p: u8, n: u64, is_allowed: bool) -> Note
+    ensures { result ≡ Note.Answer p n (if is_allowed then Reply.Ok else Reply.Err Errno.EINVAL) }
+{
+    if is_allowed {
+        answered(p, n, Reply::Ok)
+    } else {
+        refused(p, n, Errno::EINVAL)
+    }
 }
 
 /// Tells the process the reply to its request number `n`, behind what was told. It takes no memory.

@@ -56,6 +56,18 @@ pub enum FlockOp {
     Un,
 }
 
+/// How many sections there are, numbered from 0 (this project's choice).
+pub const SECTIONS: u8 = 64;
+
+/// How a process is in a section (this project's choice).
+#[derive(Clone, Copy, Debug, PartialEq, Eq)]
+pub enum Visit {
+    /// It is meant to be there alone.
+    Sole,
+    /// Others may be there too, by such a visit.
+    Shared,
+}
+
 /// What a process asks for.
 #[derive(Clone, Copy, Debug, PartialEq, Eq)]
 pub enum Request {
@@ -85,6 +97,14 @@ pub enum Request {
     Signal { target: u8 },
     /// `SIGKILL`: the process ends (POSIX.1-2017 kill). Of itself it is an exit.
     Kill { target: u8 },
+    /// The process is in the section from now on: refused with EINVAL where it is in it by whichever visit, and where there is
+    /// no such section. It touches no lock (this project's choice).
+    Enter { section: u8, visit: Visit },
+    /// The process is no longer in the section: refused with EINVAL where it isn't in it (this project's choice).
+    Leave { section: u8 },
+    /// Where the last answer to the process was an error it ends, as by `Exit`; else it is answered, and nothing changes (this
+    /// project's choice).
+    Bail,
 }
 
 /// The errors of the answers, by their names in `<errno.h>`; the numbers are this project's choice.

@@ -5,7 +5,7 @@ use Rattle.std.specs.declared.alloc.Global.{Global}
 use Rattle.script_core.specs.declared.states.States.{States}
 use Rattle.script_core.specs.declared.states.States.TheVariants.{Nowhere, Everywhere}
 use Rattle.explore_core.specs.declared.finding.Finding.{Finding}
-use Rattle.explore_core.specs.declared.finding.Finding.TheVariants.{Deadlock, Stuck, Dropped, Lost, Unborn}
+use Rattle.explore_core.specs.declared.finding.Finding.TheVariants.{Deadlock, Stuck, Together, Dropped, Lost, Unborn}
 use Rattle.explore_run.specs.FindingWords.{finding_word, pieces_of}
 use Rattle.explore_run.specs.declared.exploring.Exploring.{Exploring}
 use Rattle.explore_run.specs.declared.exploring.Printed.{Printed}
@@ -39,7 +39,7 @@ IsPrintedAsked states (Some word) (Err misuse) = ((finding : Finding) → word �
 
 -- the findings that are to fail where none are given
 abbrev pub usual_failures : List Finding
-usual_failures = Deadlock ∷ Stuck ∷ Dropped ∷ Lost ∷ Unborn ∷ []
+usual_failures = Deadlock ∷ Stuck ∷ Together ∷ Dropped ∷ Lost ∷ Unborn ∷ []
 
 -- the list behind --fail-on, if that is given, names these findings, with commas between their words; these are to fail where none is given
 abbrev pub AreNamed : Option (List ℕ) → List Finding → Type 0

@@ -143,8 +143,9 @@ I test my locking protocol:
   lockreplay --explore [--limit N] [--fail-on LIST] [--run FINDING] [FILE]
     Takes the requests of a script's processes in every order, and tells what
     some order shows, with its shortest run, and what none does: deadlock,
-    stuck, dropped, lost, busy, interrupted, killed, unborn. Status 3 where
-    another than busy, interrupted and killed is possible, or one of LIST.
+    stuck, together, dropped, lost, busy, interrupted, killed, unborn. Status
+    3 where another than busy, interrupted and killed is possible, or one of
+    LIST.
   lockreplay [--explain] --fail-on LIST [FILE]
     Takes them in the script's order alone. LIST may name badfd, too: EBADF.
   lockreplay --expect [FILE]            judges its lines # expect 1#2 EAGAIN
@@ -163,6 +164,7 @@ Script: a line for each request, the number of a process, 1 to 16, and one of
   ogetlk|osetlk|osetlkw .. the same, of the open file description
   flock FD sh|ex|un [nb]
   fork PROCESS          signal PROCESS  kill PROCESS       exit
+  enter SECTION [sh]    leave SECTION   bail (exit where an error came last)
   Process 1 lives at the start, another from its fork on; FILE is 0 to 63, FD 0
   to 31; LENGTH 0 reaches to the largest offset. Before all requests there may
   be policy queue, where a request waits behind earlier waits too, and limits

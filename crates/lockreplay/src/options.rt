@@ -53,7 +53,7 @@ pub enum Misuse {
     #[error("error: invalid value for '--limit <N>': a number, from 1 on\n\nFor more information, try '--help'.\n")]
     Limit,
     /// `--run` with what is no finding.
-    #[error("error: invalid value for '--run <FINDING>': deadlock, stuck, dropped, lost, busy, interrupted, killed or unborn\n\nFor more information, try '--help'.\n")]
+    #[error("error: invalid value for '--run <FINDING>': deadlock, stuck, together, dropped, lost, busy, interrupted, killed or unborn\n\nFor more information, try '--help'.\n")]
     Run,
     /// `--fail-on` with what is no list of findings.
     #[error("error: invalid value for '--fail-on <LIST>': findings, with commas between them\n\nFor more information, try '--help'.\n")]
@@ -320,9 +320,10 @@ fn fail_on_of(alloc: Global, list: Option<&str>) -> Result<Vec<Finding>, Fault>
 }
 
 /// The findings that are to fail, where it isn't said (this project's choice).
-const FAILURES: [Finding; 5] = [
+const FAILURES: [Finding; 6] = [
     Finding::Deadlock,
     Finding::Stuck,
+    Finding::Together,
     Finding::Dropped,
     Finding::Lost,
     Finding::Unborn,

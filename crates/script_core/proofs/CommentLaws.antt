@@ -1,6 +1,6 @@
 -- Which lines begin with `#` and which don't, and which texts go with the lines that do: for `explanations_are_comments`.
 use Rattle.std.proofs.lemmas.Grind.{common_steps}
-use Rattle.std.proofs.Common.{rules, ℕ, zero, suc, ◌≡◌, ◌+◌, ◌-◌, ◌==◌, ◌/◌, ◌%◌, Bool, true, false, not, ◌&&◌, cond, Option, Some, None, List, [], ◌∷◌, ◌++◌, flat_map, codes, decimal, ℤ, refl, sym, ap, subst, ◌∙◌, arith, append_assoc, inl, inr}
+use Rattle.std.proofs.Common.{rules, ℕ, zero, suc, ◌≡◌, ◌+◌, ◌-◌, ◌==◌, ◌/◌, ◌%◌, Bool, true, false, not, ◌&&◌, cond, if◌then◌else◌, Option, Some, None, List, [], ◌∷◌, ◌++◌, flat_map, codes, decimal, ℤ, refl, sym, ap, subst, ◌∙◌, arith, append_assoc, inl, inr}
 use Rattle.std.specs.List.{list_all, slice_split, join_with_byte}
 use Rattle.std.specs.Fmt.{signed_decimal, digits, digits_onto, digit_glyph}
 use Rattle.std.proofs.lemmas.Bool.{cases_Bool}
@@ -22,17 +22,20 @@ use Rattle.lock_manager.specs.declared.request.Note.{Note}
 use Rattle.lock_manager.specs.declared.request.InTheWay.{InTheWay}
 use Rattle.lock_manager.specs.declared.request.InTheWay.TheVariants as obstacles
 use Rattle.lock_manager.specs.declared.request.ProcState.{ProcState}
-use Rattle.lock_manager.specs.State.{State}
+use Rattle.lock_manager.specs.declared.request.Request.{Request}
+use Rattle.lock_manager.specs.declared.request.Visit.{Visit}
+use Rattle.lock_manager.specs.State.{State, Visits}
+use Rattle.lock_manager.specs.Sections.{is_together}
 use Rattle.session_core.specs.Event.{Event}
 use Rattle.script_core.specs.declared.report_text.ProcessLine.{ProcessLine}
 use Rattle.script_core.specs.Words.{lines_of, without_empty_end}
-use Rattle.script_core.specs.RequestText.{access_word, mode_word, kind_word, whence_word, op_word, lock_command_word, pid_words, nb_words, request_text}
+use Rattle.script_core.specs.RequestText.{access_word, mode_word, kind_word, whence_word, op_word, lock_command_word, pid_words, nb_words, visit_words, request_text}
 use Rattle.script_core.specs.EntryText.{reply_words, tag, note_text, entry_text, entry_line}
 use Rattle.script_core.specs.ReportText.{owner_text, flock_word, held_text, held_line, wanted_text, wait_line, state_word, counts_text, process_line, reported_line, process_lines, line_of, IsReport}
 use Rattle.script_core.specs.declared.deadlock.Link.{Link}
 use Rattle.script_core.specs.Deadlocks.{step_text, first_step_text, next_step_text}
 use Rattle.script_core.specs.Losses.{lost}
-use Rattle.script_core.specs.Explaining.{comment, obstacle_line, deadlock_line, loss_line, loss_lines, ended_line, ended_wait, Explains, more_text, untaken_reason, never_taken_line, untaken_line, untaken_lines, is_comment_line, without_comments}
+use Rattle.script_core.specs.Explaining.{comment, together_line, together_lines, entered_lines, lines_together, is_done, obstacle_line, deadlock_line, loss_line, loss_lines, ended_line, ended_wait, Explains, more_text, untaken_reason, never_taken_line, untaken_line, untaken_lines, is_comment_line, without_comments}
 
 -- no byte ends a line
 abbrev pub goes_on : ℕ → Bool
@@ -192,6 +195,9 @@ in_pid pid = grind (arith, common_steps, number)
 in_nb : (nb : Bool) → InWords (nb_words nb)
 in_nb nb = grind (arith, common_steps)
 
+in_visit : (visit : Visit) → InWords (visit_words visit)
+in_visit visit = grind (arith, common_steps)
+
 in_reply : (reply : Reply) → InWords (reply_words reply)
 in_reply reply = grind (arith, common_steps, number)
 
@@ -208,7 +214,7 @@ in_notes (note ∷ notes) = both (note_text note) (flat_map note_text notes) (in
 
 in_entry : (event : Event) → InLine (entry_text event)
 in_entry event =
-    grind (arith, common_steps, both, in_tag, joined, number, in_access, integer, in_command, words_both, in_kind, in_whence, in_pid, in_op, in_nb, in_notes)
+    grind (arith, common_steps, both, in_tag, joined, number, in_access, integer, in_command, words_both, in_kind, in_whence, in_pid, in_op, in_nb, in_visit, in_notes)
 
 starts_entry : (event : Event) → Starts (entry_text event)
 starts_entry event =
@@ -321,6 +327,33 @@ comment_loss event word held is = comment_behind event.p event.n word (held_text
 comment_losses : (event : Event) (word : List ℕ) (locks : List Held) → InLine word → IsComment (loss_lines event word locks)
 comment_losses event word locks is = comment_each (loss_line event word) (λ held. comment_loss event word held is) locks
 
+comment_where : (test : Bool) (text : List ℕ) → IsComment text → IsComment (if test then text else [])
+comment_where true text is = is
+comment_where false text is = comment_none
+
+comment_other : (event : Event) (section q : ℕ) → IsComment (together_line event section q)
+comment_other event section q =
+    let one = codes "together with " ++ decimal q in
+    let two = one ++ codes " in " in
+    is_comment event.p event.n (two ++ decimal section)
+    (both two (decimal section) (both one (codes " in ") (both (codes "together with ") (decimal q) refl (number q)) refl) (number section))
+
+comment_others : (event : Event) (visits : Visits) (section : ℕ) (visit : Visit) (n : ℕ) → IsComment (together_lines event visits section visit n)
+unfolding together_lines
+comment_others event visits section visit zero = comment_none
+comment_others event visits section visit (suc q) =
+    let test = is_together visits event.p section visit (suc q) in
+    let line = together_line event section (suc q) in
+    comment_both (together_lines event visits section visit q) (if test then line else []) (comment_others event visits section visit q)
+    (comment_where test line (comment_other event section (suc q)))
+
+comment_entered : (processes : ℕ) (event : Event) (visits : Visits) (request : Request) → IsComment (entered_lines processes event visits request)
+comment_entered processes event visits request rest = grind (arith, common_steps, comment_others)
+
+comment_together : (processes : ℕ) (event : Event) (T : State) → IsComment (lines_together processes event T)
+comment_together processes event T =
+    comment_where (is_done event.notes) (entered_lines processes event T.visits event.request) (comment_entered processes event T.visits event.request)
+
 pub comment_own : (rules : Rules) (processes : ℕ) (S : State) (event : Event) (T : State) (own : List ℕ) → Explains rules processes S event T own → IsComment own
 comment_own rules processes S event T own h =
     let a = ended_line event (ended_wait S event.request) in
@@ -329,11 +362,13 @@ comment_own rules processes S event T own h =
     let d = obstacle_line event h.obstacle in
     let e = deadlock_line event h.links in
     subst IsComment (sym h.is)
+    (comment_both (a ++ b ++ c ++ d ++ e) (lines_together processes event T)
     (comment_both (a ++ b ++ c ++ d) e
     (comment_both (a ++ b ++ c) d
     (comment_both (a ++ b) c
     (comment_both a b (comment_ended event (ended_wait S event.request)) (comment_losses event (codes "released ") h.released refl))
     (comment_losses event (codes "lost ") (lost S T event.p event.request) refl)) (comment_obstacle event h.obstacle)) (comment_deadlock event h.links))
+    (comment_together processes event T))
 
 in_more : (more : ℕ) → InLine (more_text more)
 in_more more = grind (arith, common_steps, both, number)

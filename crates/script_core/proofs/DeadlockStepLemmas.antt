@@ -20,7 +20,7 @@ use Rattle.lock_manager.specs.declared.request.FlockOp.{FlockOp}
 use Rattle.lock_manager.specs.declared.request.Reply.{Reply}
 use Rattle.lock_manager.specs.declared.request.Note.{Note}
 use Rattle.lock_manager.specs.declared.request.Request.{Request}
-use Rattle.lock_manager.specs.declared.request.Request.TheVariants.{OpenFile, Dup, DupTo, CloseFd, Seek, Resize, Lk, Flock, Fork, Exit, Signal, Kill}
+use Rattle.lock_manager.specs.declared.request.Request.TheVariants.{OpenFile, Dup, DupTo, CloseFd, Seek, Resize, Lk, Flock, Fork, Exit, Signal, Kill, Enter, Leave, Bail}
 use Rattle.lock_manager.specs.declared.request.ProcState.{ProcState}
 use Rattle.lock_manager.specs.State.{State, locks_held, opening_state}
 use Rattle.lock_manager.specs.Settling.{IsSettled, Settles}
@@ -30,6 +30,7 @@ use Rattle.lock_manager.specs.LockCommands.{CommandComesTo, DescribedComesTo}
 use Rattle.lock_manager.specs.FlockCalls.{FlockTestComesTo, FlockOpComesTo}
 use Rattle.lock_manager.specs.ProcessCalls.{SignalComesTo, KillOtherComesTo}
 use Rattle.lock_manager.specs.Asking.{AsksFor, AsksForBytes}
+use Rattle.lock_manager.specs.Sections.{may_enter, may_leave}
 use Rattle.lock_manager.specs.Step.{ComesTo, Step}
 use Rattle.script_core.specs.Explaining.{is_edeadlk, is_deadlock}
 
@@ -145,6 +146,14 @@ outcome_told rules processes S p n (Flock fd op nb) outcome h = grind (arith, co
 outcome_told rules processes S p n Exit outcome h = other_told rules S p n Exit outcome _ h.3 refl
 outcome_told rules processes S p n (Signal target) outcome h = signal_told rules S p n target (Signal target) (S.states target) outcome h
 outcome_told rules processes S p n (Kill target) outcome h = grind (arith, common_steps, by_bool, other_told, kill_told)
+outcome_told rules processes S p n (Enter section visit) outcome h =
+    by_bool (may_enter S.visits p section) h (λ done. other_told rules S p n (Enter section visit) outcome _ done refl)
+    (λ no. other_told rules S p n (Enter section visit) outcome _ no refl)
+outcome_told rules processes S p n (Leave section) outcome h =
+    by_bool (may_leave S.visits p section) h (λ done. other_told rules S p n (Leave section) outcome _ done refl)
+    (λ no. other_told rules S p n (Leave section) outcome _ no refl)
+outcome_told rules processes S p n Bail outcome h =
+    by_bool (S.refused p) h (λ ends. other_told rules S p n Bail outcome _ ends.3 refl) (λ goes_on. other_told rules S p n Bail outcome _ goes_on refl)
 
 -- what a step that was refused with EDEADLK has found, from a settled state: it leaves that state
 pub record HasClosed (rules : Rules) (p n : ℕ) (request : Request) (T : State) : Type 0 where

@@ -1,6 +1,6 @@
 -- The run that is made again, step by step: for `write_explained`, clause `ok`.
 use Rattle.std.proofs.lemmas.Grind.{common_steps}
-use Rattle.std.proofs.Common.{rules, ℕ, zero, suc, ◌≡◌, ◌+◌, ◌-◌, ◌<◌, ◌≤◌, Option, List, [], ◌∷◌, ◌++◌, length, All, inl, inr, take, drop, get_or, refl, sym, ap, subst, ◌∙◌, arith, append_assoc, append-nil, add-one, Result, true, IfOk, MatchResult, OnErr, OnOk, codes, decimal, slice_index}
+use Rattle.std.proofs.Common.{rules, ℕ, zero, suc, ◌≡◌, ◌+◌, ◌-◌, ◌<◌, ◌≤◌, Option, Bool, List, [], ◌∷◌, ◌++◌, length, All, inl, inr, take, drop, get_or, refl, sym, ap, subst, ◌∙◌, arith, append_assoc, append-nil, add-one, Result, true, IfOk, MatchResult, OnErr, OnOk, if◌then◌else◌, codes, decimal, slice_index}
 use Rattle.std.proofs.Math.Seq.{drop-cons, take-append_seam}
 use Rattle.std.proofs.lemmas.List.{take_more, take_all, length-take}
 use Rattle.std.proofs.lemmas.Bool.{cases_Bool}
@@ -19,9 +19,11 @@ use Rattle.lock_manager.specs.declared.request.FlockOp.{FlockOp}
 use Rattle.lock_manager.specs.declared.request.Note.{Note}
 use Rattle.lock_manager.specs.declared.request.InTheWay.{InTheWay}
 use Rattle.lock_manager.specs.declared.request.Request.{Request}
-use Rattle.lock_manager.specs.declared.request.Request.TheVariants.{OpenFile, Dup, DupTo, CloseFd, Seek, Resize, Lk, Flock, Fork, Exit, Signal, Kill}
+use Rattle.lock_manager.specs.declared.request.Request.TheVariants.{OpenFile, Dup, DupTo, CloseFd, Seek, Resize, Lk, Flock, Fork, Exit, Signal, Kill, Enter, Leave, Bail}
 use Rattle.lock_manager.specs.declared.manager.Manager.{Manager}
-use Rattle.lock_manager.specs.State.{State, opening_state, locks_held}
+use Rattle.lock_manager.specs.declared.request.Visit.{Visit}
+use Rattle.lock_manager.specs.State.{State, Visits, opening_state, locks_held}
+use Rattle.lock_manager.specs.Sections.{is_together}
 use Rattle.lock_manager.specs.Settling.{IsSettled}
 use Rattle.lock_manager.specs.Step.{Step}
 use Rattle.lock_manager.specs.Asking.{AsksFor, AsksForBytes, AsksForWhole}
@@ -39,7 +41,7 @@ use Rattle.script_core.proofs.StateLemmas.{StateTold}
 use Rattle.script_core.specs.Files.{IsWithinFiles}
 use Rattle.script_core.specs.Deadlocks.{TellsCycleIfAny}
 use Rattle.script_core.specs.Losses.{closed_by, AreReleased, lost}
-use Rattle.script_core.specs.Explaining.{comment, is_deadlock, obstacle_line, deadlock_line, TellsDeadlock, IsCycleOf, loss_lines, ended_line, ended_wait, StandsInTheWay, Explains, ExplainsRun}
+use Rattle.script_core.specs.Explaining.{comment, is_deadlock, obstacle_line, deadlock_line, TellsDeadlock, IsCycleOf, loss_lines, ended_line, ended_wait, StandsInTheWay, Explains, ExplainsRun, lines_together, together_line, together_lines}
 use Rattle.script_core.proofs.TextLemmas.{kept_behind}
 use Rattle.script_core.proofs.DeadlockLocksLemmas.{told_of_state, none_of_state}
 use Rattle.script_core.proofs.DeadlockStepLemmas.{HasClosed, step_closes}
@@ -66,6 +68,9 @@ asks_once S p n (Fork child) v w h k = absurd h
 asks_once S p n Exit v w h k = absurd h
 asks_once S p n (Signal target) v w h k = absurd h
 asks_once S p n (Kill target) v w h k = absurd h
+asks_once S p n (Enter section visit) v w h k = absurd h
+asks_once S p n (Leave section) v w h k = absurd h
+asks_once S p n Bail v w h k = absurd h
 
 -- the cycle of the lock that the request asks for is that of the event
 pub found_cycle : (policy : Policy) (T : State) (report : List Held) (event : Event) (wait : Wait) (waits : List Wait) (links : List Link)
@@ -129,7 +134,7 @@ and_then old mid new front piece is pushed = pushed ∙ ap (λ (l : List ℕ). l
 
 -- what is told of the step, and of the locks and waits before and behind it, explains it
 pub explains_step : StepHasOneOutcome
-    → (rules : Rules) (old next : Manager) (event : Event) (notes : List Note) (obstacle : Option InTheWay) (links : List Link) (t0 t1 t2 t3 t4 t5 t6 : List ℕ)
+    → (rules : Rules) (old next : Manager) (event : Event) (notes : List Note) (obstacle : Option InTheWay) (links : List Link) (t0 t1 t2 t3 t4 t5 t6 t7 : List ℕ)
     → rules ≡ rules_of old
     → ((S : State) → StandsFor old S → (T : State)
     × Step (rules_of old) (processes_of old) S event.p event.n event.request notes T × StandsFor next T)
@@ -140,9 +145,10 @@ pub explains_step : StepHasOneOutcome
     × AreReleased (processes_of old) (descriptor_limit rules.limits) S (closed_by rules.limits S event.p event.request) locks
     × (t3 ≡ t2 ++ loss_lines event (codes "released ") locks))
     → ((S T : State) → StandsFor old S → StandsFor next T → t4 ≡ t3 ++ loss_lines event (codes "lost ") (lost S T event.p event.request))
-    → t5 ≡ t4 ++ obstacle_line event obstacle → t6 ≡ t5 ++ deadlock_line event links
-    → StepExplains rules.policy old next event t0 t6
-explains_step one rules old next event notes obstacle links t0 t1 t2 t3 t4 t5 t6 ruled steps stands cycle same_rules first ends releases loses third fourth S T h within settled step =
+    → t5 ≡ t4 ++ obstacle_line event obstacle → t6 ≡ t5 ++ deadlock_line event links → processes_of next ≡ processes_of old
+    → ((T : State) → StandsFor next T → t7 ≡ t6 ++ lines_together (processes_of next) event T)
+    → StepExplains rules.policy old next event t0 t7
+explains_step one rules old next event notes obstacle links t0 t1 t2 t3 t4 t5 t6 t7 ruled steps stands cycle same_rules first ends releases loses third fourth all meets S T h within settled step =
     let made = steps S h in
     let same : made.0 ≡ T = (one (rules_of old) (processes_of old) S event.p event.n event.request notes event.notes made.0 T made.1 step).1 in
     let now : StandsFor next T = subst (StandsFor next) same made.2 in
@@ -151,9 +157,11 @@ explains_step one rules old next event notes obstacle links t0 t1 t2 t3 t4 t5 t6
     let released = loss_lines event (codes "released ") gone.0 in
     let losses = loss_lines event (codes "lost ") (lost S T event.p event.request) in
     let blocked = obstacle_line event obstacle in
-    let refused = deadlock_line event links in (
+    let refused = deadlock_line event links in
+    let met = lines_together (processes_of old) event T in
+    let meeting : t7 ≡ t6 ++ met = meets T now ∙ ap (λ (k : ℕ). t6 ++ lines_together k event T) all in (
       now,
-      ended ++ released ++ losses ++ blocked ++ refused,
+      ended ++ released ++ losses ++ blocked ++ refused ++ met,
       record {
         released = gone.0;
         are_released = subst
@@ -166,11 +174,13 @@ explains_step one rules old next event notes obstacle links t0 t1 t2 t3 t4 t5 t6
             (subst (λ (r : Rules). IsCycleOf r.policy T event links) ruled (cycle T now));
         is = refl;
       },
-      and_then t0 t5 t6 (entry_line event ++ ended ++ released ++ losses ++ blocked) refused
+      and_then t0 t6 t7 (entry_line event ++ ended ++ released ++ losses ++ blocked ++ refused) met
+          (and_then t0 t5 t6 (entry_line event ++ ended ++ released ++ losses ++ blocked) refused
           (and_then t0 t4 t5 (entry_line event ++ ended ++ released ++ losses) blocked
           (and_then t0 t3 t4 (entry_line event ++ ended ++ released) losses
-          (and_then t0 t2 t3 (entry_line event ++ ended) released (and_then t0 t1 t2 (entry_line event) ended first (ends S h)) gone.2) (loses S T h now)) third) fourth
-          ∙ ap (λ (l : List ℕ). t0 ++ l) (six (entry_line event) ended released losses blocked refused),
+          (and_then t0 t2 t3 (entry_line event ++ ended) released (and_then t0 t1 t2 (entry_line event) ended first (ends S h)) gone.2) (loses S T h now)) third) fourth) meeting
+          ∙ ap (λ (l : List ℕ). t0 ++ l) (ap (λ (l : List ℕ). l ++ met) (six (entry_line event) ended released losses blocked refused)
+          ∙ append_assoc (entry_line event) (ended ++ released ++ losses ++ blocked ++ refused) met),
     )
   where
     six : (a b c d e f : List ℕ) → ((((a ++ b) ++ c) ++ d) ++ e) ++ f ≡ a ++ ((((b ++ c) ++ d) ++ e) ++ f)
@@ -183,6 +193,13 @@ explains_step one rules old next event notes obstacle links t0 t1 t2 t3 t4 t5 t6
 pub if_pushed : {A E : Type 0} (r : Result A E) (P Q X : Type 0) → MatchResult r (λ unit. P) (λ error. Q) → (P → X) → OnOk r X
 if_pushed r P Q X h gives = grind (arith, common_steps)
 
+-- the same where it is told of each state that there may be
+pub if_done : {A E : Type 0} (r : Result A E) (P X : Type 0) → OnOk r P → (P → X) → OnOk r X
+if_done r P X h gives = grind (arith, common_steps)
+
+pub if_failed : {A E : Type 0} (r : Result A E) (X : Type 0) → X → OnErr r X
+if_failed r X h = grind (arith, common_steps)
+
 pub if_refused : {A E : Type 0} (r : Result A E) (P Q X : Type 0) → MatchResult r (λ unit. P) (λ error. Q) → (Q → X) → OnErr r X
 if_refused r P Q X h gives = grind (arith, common_steps)
 
@@ -191,6 +208,32 @@ pub begun : {A E : Type 0} (r : Result A E) (old front new told : List ℕ)
     → MatchResult r (λ unit. new ≡ old ++ front ++ told) (λ error. Extends (old ++ front) new)
     → MatchResult r (λ unit. new ≡ old ++ (front ++ told)) (λ error. Extends old new)
 begun r old front new told is = grind (arith, common_steps, append_assoc, kept_behind)
+
+-- no processes, and one more
+pub none_together : (event : Event) (visits : Visits) (section : ℕ) (visit : Visit) (old : List ℕ) → old ≡ old ++ together_lines event visits section visit 0
+unfolding together_lines
+none_together event visits section visit old = sym (append-nil old)
+
+pub more_together : (event : Event) (visits : Visits) (section : ℕ) (visit : Visit) (old mid new : List ℕ) (index : ℕ)
+    → mid ≡ old ++ together_lines event visits section visit index
+    → new ≡ mid ++ (if is_together visits event.p section visit (index + 1) then together_line event section (index + 1) else [])
+    → new ≡ old ++ together_lines event visits section visit (index + 1)
+unfolding together_lines
+more_together event visits section visit old mid new index was is =
+    let front = together_lines event visits section visit index in
+    let line = (if is_together visits event.p section visit (index + 1) then together_line event section (index + 1) else []) in
+    rw (add-one index)
+    (subst
+    (λ (q : ℕ). new ≡ old ++ (front ++ (if is_together visits event.p section visit q then together_line event section q else [])))
+    (add-one index) (is ∙ ap (λ (l : List ℕ). l ++ line) was ∙ append_assoc old front line))
+
+-- the line of a process that is told, or none
+pub told_together : (event : Event) (visits : Visits) (section : ℕ) (visit : Visit) (old mid new : List ℕ) (index : ℕ) (test : Bool)
+    → test ≡ is_together visits event.p section visit (index + 1) → mid ≡ old ++ together_lines event visits section visit index
+    → new ≡ mid ++ (if test then together_line event section (index + 1) else []) → new ≡ old ++ together_lines event visits section visit (index + 1)
+told_together event visits section visit old mid new index test at was is =
+    more_together event visits section visit old mid new index was
+    (is ∙ ap (λ (b : Bool). mid ++ (if b then together_line event section (index + 1) else [])) at)
 
 -- what is said of an obstacle behind the words of a comment
 pub told_behind : {A E : Type 0} (r : Result A E) (old mid new : List ℕ) (p n : ℕ) (words line told : List ℕ) → mid ≡ old ++ comment p n words
@@ -308,7 +351,7 @@ explained_more states rules processes journal index number manager next before a
       last = h.last;
       stands = step.3;
       within = step_files rules processes h.state event.p event.n event.request event.notes step.0 step.1 h.within;
-      settled = settles_settled rules.policy step.1.outcome.after step.1.grants step.0 step.1.settles;
+      settled = settles_settled rules.policy _ step.1.grants step.0 step.1.settles;
       leads = subst (λ (l : List Event). Leads rules processes step.0 l h.last) (ap (λ (k : ℕ). drop k journal) (sym (add-one index))) step.2;
       more = h.more ++ piece;
       explains = subst (λ (l : List Event). ExplainsRun states rules processes 1 opening_state l step.0 (h.more ++ piece)) (sym front)

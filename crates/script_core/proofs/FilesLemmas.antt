@@ -19,7 +19,7 @@ use Rattle.lock_manager.specs.declared.request.LkCmd.{LkCmd}
 use Rattle.lock_manager.specs.declared.request.FlockOp.{FlockOp}
 use Rattle.lock_manager.specs.declared.request.Note.{Note}
 use Rattle.lock_manager.specs.declared.request.Request.{Request}
-use Rattle.lock_manager.specs.declared.request.Request.TheVariants.{OpenFile, Dup, DupTo, CloseFd, Seek, Resize, Lk, Flock, Fork, Exit, Signal, Kill}
+use Rattle.lock_manager.specs.declared.request.Request.TheVariants.{OpenFile, Dup, DupTo, CloseFd, Seek, Resize, Lk, Flock, Fork, Exit, Signal, Kill, Enter, Leave, Bail}
 use Rattle.lock_manager.specs.declared.request.ProcState.{ProcState}
 use Rattle.lock_manager.specs.declared.request.ProcState.TheVariants.{Unborn, Live, Waiting, Ended}
 use Rattle.lock_manager.specs.State.{State, opening_state, with_lock_of}
@@ -30,6 +30,7 @@ use Rattle.lock_manager.specs.LockCommands.{CommandComesTo, DescribedComesTo}
 use Rattle.lock_manager.specs.FlockCalls.{FlockModeComesTo, FlockOpComesTo}
 use Rattle.lock_manager.specs.ProcessCalls.{EndComesTo, SignalComesTo, KillOtherComesTo}
 use Rattle.lock_manager.specs.Asking.{AsksFor}
+use Rattle.lock_manager.specs.Sections.{may_enter, may_leave}
 use Rattle.lock_manager.specs.Step.{ComesTo, Step}
 use Rattle.script_core.specs.Files.{IsWithinFiles}
 use Rattle.script_core.proofs.DeadlockStepLemmas.{if_option, if_result}
@@ -174,6 +175,12 @@ outcome_leaves rules processes S p n (Signal target) outcome h within = signal_l
 outcome_leaves rules processes S p n (Kill target) outcome h within =
     by_bool (target == p) h (λ own. end_leaves S p [] outcome own within)
     (λ others. kill_leaves S p n target (S.states target) outcome others within)
+outcome_leaves rules processes S p n (Enter section visit) outcome h within =
+    by_bool (may_enter S.visits p section) h (λ done. leaves outcome _ done within) (λ no. leaves outcome _ no within)
+outcome_leaves rules processes S p n (Leave section) outcome h within =
+    by_bool (may_leave S.visits p section) h (λ done. leaves outcome _ done within) (λ no. leaves outcome _ no within)
+outcome_leaves rules processes S p n Bail outcome h within =
+    by_bool (S.refused p) h (λ ends. end_leaves S p [] outcome ends within) (λ goes_on. leaves outcome _ goes_on within)
 
 -- each step keeps it
 pub step_files : (rules : Rules) (processes : ℕ) (S : State) (p n : ℕ) (request : Request) (notes : List Note) (T : State)

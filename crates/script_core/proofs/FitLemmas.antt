@@ -21,10 +21,13 @@ use Rattle.wait_core.specs.declared.Wait.{Wait}
 use Rattle.wait_core.specs.Locks.{Locks}
 use Rattle.wait_core.specs.Blocking.{IsBlocked, AllBlocked}
 use Rattle.lock_manager.specs.declared.request.Note.{Note}
+use Rattle.lock_manager.specs.declared.request.Request.{Request}
 use Rattle.lock_manager.specs.declared.request.ProcState.{ProcState}
 use Rattle.lock_manager.specs.declared.request.ProcState.TheVariants.{Unborn, Live, Waiting}
 use Rattle.lock_manager.specs.State.{State, with_lock}
 use Rattle.lock_manager.specs.Settling.{Settles, IsSettled, granted}
+use Rattle.lock_manager.specs.Outcomes.{Outcome}
+use Rattle.lock_manager.specs.Sections.{marked}
 use Rattle.lock_manager.specs.DescriptorCalls.{with_released, process_releases, description_releases, flock_releases}
 use Rattle.script_core.specs.ScriptText.{IsProcess}
 use Rattle.script_core.specs.EntryReading.{IsWritableNote}
@@ -209,6 +212,16 @@ same_locked S wait = grind (arith, common_steps)
 
 pub fits_same : (limits : Limits) (S T : State) → Fits limits S → SameProcesses S T → FitsLocks T → Fits limits T
 fits_same limits S T fits same locks = grind (arith, common_steps)
+
+-- who is in which section, and was refused, changes nothing of it
+pub marked_same : (S : State) (p : ℕ) (request : Request) (outcome : Outcome) → SameProcesses outcome.after (marked S p request outcome)
+marked_same S p request outcome = record { states = refl; waits = refl; alive = λ q. refl }
+
+pub marked_fits : (limits : Limits) (S : State) (p : ℕ) (request : Request) (outcome : Outcome) → Fits limits outcome.after
+    → Fits limits (marked S p request outcome)
+marked_fits limits S p request outcome fits =
+    fits_same limits outcome.after (marked S p request outcome) fits (marked_same S p request outcome)
+    (record { changes = fits.locks.changes; flocks = fits.locks.flocks; files = fits.locks.files })
 
 -- what a process releases fits
 released_files : (p : ℕ) (files : List ℕ) → p ≤ 64 → Each FitsChange (process_releases p files)

@@ -44,3 +44,4 @@ pub mod OutputReadingLaws
 pub mod explained
 pub mod gone
 pub mod lengths
+pub mod SectionLaws

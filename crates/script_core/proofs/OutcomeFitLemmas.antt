@@ -36,7 +36,7 @@ use Rattle.lock_manager.specs.declared.request.LkCmd.TheVariants.{GetLk, SetLk, 
 use Rattle.lock_manager.specs.declared.request.FlockOp.{FlockOp}
 use Rattle.lock_manager.specs.declared.request.FlockOp.TheVariants.{Sh, Ex, Un}
 use Rattle.lock_manager.specs.declared.request.Request.{Request}
-use Rattle.lock_manager.specs.declared.request.Request.TheVariants.{OpenFile, Dup, DupTo, CloseFd, Seek, Resize, Lk, Flock, Fork, Exit, Signal, Kill}
+use Rattle.lock_manager.specs.declared.request.Request.TheVariants.{OpenFile, Dup, DupTo, CloseFd, Seek, Resize, Lk, Flock, Fork, Exit, Signal, Kill, Enter, Leave, Bail}
 use Rattle.lock_manager.specs.declared.request.Note.{Note}
 use Rattle.lock_manager.specs.declared.request.Reply.{Reply}
 use Rattle.lock_manager.specs.declared.request.Reply.TheVariants as replies
@@ -50,6 +50,7 @@ use Rattle.lock_manager.specs.LockWords.{is_bad_argument, wanted_mode, held_repl
 use Rattle.lock_manager.specs.LockCommands.{DescribedComesTo, RangeComesTo, ModeComesTo, CommandComesTo, GetComesTo, SetComesTo, SetOrWaitComesTo, WaitOrDeadlockComesTo}
 use Rattle.lock_manager.specs.FlockCalls.{FlockOpComesTo, FlockModeComesTo, FlockTestComesTo, ConversionComesTo, is_same_mode}
 use Rattle.lock_manager.specs.ProcessCalls.{ForkComesTo, EndComesTo, SignalComesTo, KillOtherComesTo, without_wait}
+use Rattle.lock_manager.specs.Sections.{may_enter, may_leave}
 use Rattle.lock_manager.specs.Step.{ComesTo}
 use Rattle.script_core.specs.ScriptText.{IsProcess, IsWritable}
 use Rattle.script_core.specs.EntryReading.{IsWritableNote, IsWritableReply}
@@ -451,11 +452,15 @@ exit_fits rules S p n outcome h is =
     let few = few_wait rules.limits S p h.process h.live h.fits in
     end_fits rules S p [] outcome h.fits (λ e. let bad : Live ≡ Unborn = sym h.live ∙ e in cc) (few_processes rules.limits p h.process) tt (omega (arith, few)) is
 
+-- the caller is answered, and nothing else
+done_fits : (rules : Rules) (S : State) (p n : ℕ) (outcome : Outcome) → IsAtHand rules S p n → outcome ≡ answered S p n replies.Ok → OutcomeFits rules outcome
+done_fits rules S p n outcome h is = answers_fit rules S S p n replies.Ok outcome h (same_all S) h.fits.locks tt is
+
 signal_fits : (rules : Rules) (S : State) (p n target : ℕ) (state : ProcState) (outcome : Outcome) → IsAtHand rules S p n
     → S.states target ≡ state → SignalComesTo S p n target state outcome → OutcomeFits rules outcome
 signal_fits rules S p n target Unborn outcome h at is = refused_fits rules S p n _ outcome h is
 signal_fits rules S p n target Ended outcome h at is = refused_fits rules S p n _ outcome h is
-signal_fits rules S p n target Live outcome h at is = answers_fit rules S S p n replies.Ok outcome h (same_all S) h.fits.locks tt is
+signal_fits rules S p n target Live outcome h at is = done_fits rules S p n outcome h is
 signal_fits rules S p n target Waiting outcome h at (wait, found, is) =
     let few = few_wait rules.limits S p h.process h.live h.fits in
     let own = wait_found (FitsWait rules.limits S.states) S.waits target wait h.fits.waits found in
@@ -487,3 +492,9 @@ request_fits rules processes S p n (Signal target) outcome h writable is = signa
 request_fits rules processes S p n (Kill target) outcome h writable is =
     by_bool (target == p) is (λ own. exit_fits rules S p n outcome h own)
     (λ other. kill_fits rules S p n target (S.states target) outcome h (few_processes rules.limits target writable) refl other)
+request_fits rules processes S p n (Enter section visit) outcome h writable is =
+    by_bool (may_enter S.visits p section) is (λ done. done_fits rules S p n outcome h done) (λ no. refused_fits rules S p n _ outcome h no)
+request_fits rules processes S p n (Leave section) outcome h writable is =
+    by_bool (may_leave S.visits p section) is (λ done. done_fits rules S p n outcome h done) (λ no. refused_fits rules S p n _ outcome h no)
+request_fits rules processes S p n Bail outcome h writable is =
+    by_bool (S.refused p) is (λ ends. exit_fits rules S p n outcome h ends) (λ goes_on. done_fits rules S p n outcome h goes_on)

@@ -17,7 +17,9 @@ use Rattle.wait_core.specs.declared.Policy.TheVariants.{Held, Queue}
 use Rattle.lock_manager.specs.declared.request.FlockOp.{FlockOp}
 use Rattle.lock_manager.specs.declared.request.FlockOp.TheVariants.{Sh, Ex, Un}
 use Rattle.lock_manager.specs.declared.request.Request.{Request}
-use Rattle.lock_manager.specs.declared.request.Request.TheVariants.{OpenFile, Dup, DupTo, CloseFd, Seek, Resize, Lk, Flock, Fork, Exit, Signal, Kill}
+use Rattle.lock_manager.specs.declared.request.Request.TheVariants.{OpenFile, Dup, DupTo, CloseFd, Seek, Resize, Lk, Flock, Fork, Exit, Signal, Kill, Enter, Leave, Bail}
+use Rattle.lock_manager.specs.declared.request.Visit.{Visit}
+use Rattle.lock_manager.specs.declared.request.Visit.TheVariants.{Sole, Shared}
 use Rattle.range_core.specs.declared.Kind.{Kind}
 use Rattle.range_core.specs.declared.Kind.TheVariants.{Read, Write, Unlock}
 use Rattle.range_core.specs.declared.Whence.{Whence}
@@ -30,8 +32,8 @@ use Rattle.script_core.specs.declared.script.Cause.TheVariants.{Byte, Word, Coun
 use Rattle.script_core.specs.declared.script.ScriptFault.{ScriptFault}
 use Rattle.script_core.specs.Words.{words_of, is_printable, line_limit}
 use Rattle.script_core.specs.HeaderText.{policy_word, limits_word}
-use Rattle.script_core.specs.RequestText.{access_word, kind_word, whence_word, op_word, nb_words, command_word, lock_command_word, pid_words, lock_words, request_words}
-use Rattle.script_core.specs.Arguments.{Argument, FileNumber, DescriptorNumber, AnyNumber, ProcessNumber, AccessWord, OpWord, NbWord, Spells, IsFirstBad, AreRefused, lock_arguments, lock_command, Command, command_named, has_count}
+use Rattle.script_core.specs.RequestText.{access_word, kind_word, whence_word, op_word, nb_words, visit_words, command_word, lock_command_word, pid_words, lock_words, request_words}
+use Rattle.script_core.specs.Arguments.{Argument, FileNumber, SectionNumber, DescriptorNumber, AnyNumber, ProcessNumber, AccessWord, OpWord, NbWord, SharedWord, Spells, IsFirstBad, AreRefused, lock_arguments, lock_command, Command, command_named, has_count}
 use Rattle.script_core.specs.ScriptText.{Meaning, HasZeroPid, Says, IsRequest, IsProcess, IsWritable}
 use Rattle.script_core.specs.Reading.{Reading, ArgumentsGive, CommandGives, RequestGives, ArrivalGives, ProcessGives, PolicyGives, LimitsGive, WordsGive, LineGives, LinesGive, HasOneReading, says_policy, says_limits, limits_of, meaning_of, reading_after, start}
 use Rattle.script_core.proofs.NumberLemmas.{number_in, number_in-zero, digits_value-spelled, number_in-spelled}
@@ -94,6 +96,11 @@ nb_in : List (List ℕ) → Bool
 nb_in [] = false
 nb_in (word ∷ words) = true
 
+-- the visit by what is written behind a section
+visit_written : List (List ℕ) → Visit
+visit_written [] = Sole
+visit_written (word ∷ words) = Shared
+
 access_in-word : (access : Access) → access_in (access_word access) ≡ access
 unfolding access_in
 access_in-word access = search (rules)
@@ -114,6 +121,11 @@ nb_in-words : (nb : Bool) → nb_in (nb_words nb) ≡ nb
 unfolding nb_in
 nb_in-words true = refl
 nb_in-words false = refl
+
+visit_written-words : (visit : Visit) → visit_written (visit_words visit) ≡ visit
+unfolding visit_written
+visit_written-words Sole = refl
+visit_written-words Shared = refl
 
 -- the numbers at a place of the words
 unfoldable pub natural_at : ℕ → List (List ℕ) → ℕ
@@ -152,7 +164,10 @@ said words =
     (cond (bytes_eq name (codes "flock")) (Flock fd (op_in (get_or words 2 [])) (nb_in (drop 3 words)))
     (cond (bytes_eq name (codes "fork")) (Fork fd)
     (cond (bytes_eq name (codes "signal")) (Signal fd)
-    (cond (bytes_eq name (codes "kill")) (Kill fd) Exit)))))))))))))))
+    (cond (bytes_eq name (codes "kill")) (Kill fd)
+    (cond (bytes_eq name (codes "enter")) (Enter fd (visit_written (drop 2 words)))
+    (cond (bytes_eq name (codes "leave")) (Leave fd)
+    (cond (bytes_eq name (codes "bail")) Bail Exit))))))))))))))))))
 
 said_lock : (cmd : LkCmd) (arguments : List (List ℕ))
     → said (lock_command_word cmd ∷ arguments) ≡ Lk (natural_at 1 (lock_command_word cmd ∷ arguments)) cmd (lock_in (lock_command_word cmd ∷ arguments))
@@ -213,6 +228,11 @@ said_is limits words (Fork child) says fits = ap said (has_words words (Fork chi
 said_is limits words Exit says fits = ap said (has_words words Exit (λ zero. zero) says)
 said_is limits words (Signal target) says fits = ap said (has_words words (Signal target) (λ zero. zero) says) ∙ ap Signal (digits_value-spelled target (small_process limits target fits))
 said_is limits words (Kill target) says fits = ap said (has_words words (Kill target) (λ zero. zero) says) ∙ ap Kill (digits_value-spelled target (small_process limits target fits))
+said_is limits words (Enter section visit) says fits =
+    let number = digits_value-spelled section (omega (arith, fits)) in
+    ap said (has_words words (Enter section visit) (λ zero. zero) says) ∙ (λ i. Enter (number i) (visit_written-words visit i))
+said_is limits words (Leave section) says fits = ap said (has_words words (Leave section) (λ zero. zero) says) ∙ ap Leave (digits_value-spelled section (omega (arith, fits)))
+said_is limits words Bail says fits = ap said (has_words words Bail (λ zero. zero) says)
 
 -- the words of a request say one request
 IsRequest-unique : (limits : Limits) (words : List (List ℕ)) (a b : Request) → IsRequest limits words a → IsRequest limits words b → a ≡ b
@@ -241,6 +261,10 @@ nb_spelled : (nb : Bool) → AllSpell (NbWord ∷ []) (nb_words nb)
 unfolding AllSpell
 nb_spelled nb = grind (arith, common_steps)
 
+visit_spelled : (visit : Visit) → AllSpell (SharedWord ∷ []) (visit_words visit)
+unfolding AllSpell
+visit_spelled visit = grind (arith, common_steps)
+
 command_is : (command known : Command) → Some known ≡ Some command → known ≡ command
 command_is command known e = ap (λ o. unwrap_or o known) e
 
@@ -265,6 +289,9 @@ arguments_of limits (Fork child) = ProcessNumber limits ∷ []
 arguments_of limits Exit = []
 arguments_of limits (Signal target) = ProcessNumber limits ∷ []
 arguments_of limits (Kill target) = ProcessNumber limits ∷ []
+arguments_of limits (Enter section visit) = SectionNumber ∷ SharedWord ∷ []
+arguments_of limits (Leave section) = SectionNumber ∷ []
+arguments_of limits Bail = []
 
 -- the first of the words is a command with these arguments
 abbrev Names : Limits → List Argument → List (List ℕ) → Type 0
@@ -302,6 +329,10 @@ request_spelled limits words (Fork child) says fits = spells_so (ProcessNumber l
 request_spelled limits words Exit says fits = spells_so [] words Exit (λ zero. zero) says tt
 request_spelled limits words (Signal target) says fits = spells_so (ProcessNumber limits ∷ []) words (Signal target) (λ zero. zero) says ((target, fits.0, fits.1, refl), tt)
 request_spelled limits words (Kill target) says fits = spells_so (ProcessNumber limits ∷ []) words (Kill target) (λ zero. zero) says ((target, fits.0, fits.1, refl), tt)
+request_spelled limits words (Enter section visit) says fits =
+    spells_so (SectionNumber ∷ SharedWord ∷ []) words (Enter section visit) (λ zero. zero) says ((section, fits, refl), visit_spelled visit)
+request_spelled limits words (Leave section) says fits = spells_so (SectionNumber ∷ []) words (Leave section) (λ zero. zero) says ((section, fits, refl), tt)
+request_spelled limits words Bail says fits = spells_so [] words Bail (λ zero. zero) says tt
 
 -- where the words are a request, no argument is bad
 no_bad : (limits : Limits) (name : List ℕ) (arguments : List (List ℕ)) (command : Command) (request : Request) (cause : Cause)

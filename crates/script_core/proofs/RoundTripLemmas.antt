@@ -16,13 +16,15 @@ use Rattle.fd_table.specs.declared.Limits.{Limits}
 use Rattle.lock_manager.specs.declared.request.FlockOp.{FlockOp}
 use Rattle.lock_manager.specs.declared.request.FlockOp.TheVariants.{Sh, Ex, Un}
 use Rattle.lock_manager.specs.declared.request.Request.{Request}
-use Rattle.lock_manager.specs.declared.request.Request.TheVariants.{OpenFile, Dup, DupTo, CloseFd, Seek, Resize, Lk, Flock, Fork, Exit, Signal, Kill}
+use Rattle.lock_manager.specs.declared.request.Request.TheVariants.{OpenFile, Dup, DupTo, CloseFd, Seek, Resize, Lk, Flock, Fork, Exit, Signal, Kill, Enter, Leave, Bail}
+use Rattle.lock_manager.specs.declared.request.Visit.{Visit}
+use Rattle.lock_manager.specs.declared.request.Visit.TheVariants.{Sole, Shared}
 use Rattle.range_core.specs.declared.Kind.{Kind}
 use Rattle.range_core.specs.declared.Kind.TheVariants.{Read, Write, Unlock}
 use Rattle.range_core.specs.declared.Whence.{Whence}
 use Rattle.range_core.specs.declared.Whence.TheVariants.{Set, Cur, End}
 use Rattle.script_core.specs.Words.{words_of, is_printable, line_limit}
-use Rattle.script_core.specs.RequestText.{access_word, kind_word, whence_word, op_word, nb_words, lock_command_word, pid_words, request_words, request_text}
+use Rattle.script_core.specs.RequestText.{access_word, kind_word, whence_word, op_word, nb_words, visit_words, lock_command_word, pid_words, request_words, request_text}
 use Rattle.script_core.specs.ScriptText.{IsProcess, IsDescriptor, IsWritable}
 use Rattle.script_core.specs.declared.line.Line.{Line}
 use Rattle.script_core.specs.declared.line.Line.TheVariants as lines
@@ -183,6 +185,11 @@ unfolding AreWords
 AreWords-nb_words true = (IsWord-tested (codes "nb") refl, tt)
 AreWords-nb_words false = tt
 
+AreWords-visit_words : (visit : Visit) → AreWords (visit_words visit)
+unfolding AreWords
+AreWords-visit_words Shared = (IsWord-tested (codes "sh") refl, tt)
+AreWords-visit_words Sole = tt
+
 pub AreWords-request_words : (limits : Limits) (request : Request) → IsWritable limits request → AreWords (request_words request)
 unfolding AreWords
 AreWords-request_words limits (OpenFile file access) writable = (IsWord-tested (codes "open") refl, (IsWord-decimal file (omega (arith, writable)), (IsWord-access_word access, tt)))
@@ -196,6 +203,9 @@ AreWords-request_words limits (Fork child) writable = (IsWord-tested (codes "for
 AreWords-request_words limits Exit writable = (IsWord-tested (codes "exit") refl, tt)
 AreWords-request_words limits (Signal target) writable = (IsWord-tested (codes "signal") refl, (IsWord-process limits target writable, tt))
 AreWords-request_words limits (Kill target) writable = (IsWord-tested (codes "kill") refl, (IsWord-process limits target writable, tt))
+AreWords-request_words limits (Enter section visit) writable = (IsWord-tested (codes "enter") refl, (IsWord-decimal section (omega (arith, writable)), AreWords-visit_words visit))
+AreWords-request_words limits (Leave section) writable = (IsWord-tested (codes "leave") refl, (IsWord-decimal section (omega (arith, writable)), tt))
+AreWords-request_words limits Bail writable = (IsWord-tested (codes "bail") refl, tt)
 AreWords-request_words limits (Lk fd cmd lock) writable = (
   IsWord-lock_command_word cmd,
   (
@@ -229,10 +239,14 @@ more_length-nb_words : (nb : Bool) → more_length (nb_words nb) ≤ 3
 unfolding more_length
 more_length-nb_words nb = grind (arith, common_steps)
 
+more_length-visit_words : (visit : Visit) → more_length (visit_words visit) ≤ 3
+unfolding more_length
+more_length-visit_words visit = grind (arith, common_steps)
+
 pub more_length-request_words : (limits : Limits) (request : Request) → IsWritable limits request → more_length (request_words request) ≤ 118
 unfolding more_length
 more_length-request_words limits request h =
-    grind (arith, common_steps, length-decimal-le, length-descriptor, length-signed_decimal, more_length-nb_words, length-process, more_length-pid_words)
+    grind (arith, common_steps, length-decimal-le, length-descriptor, length-signed_decimal, more_length-nb_words, more_length-visit_words, length-process, more_length-pid_words)
 
 pub gives_request : (limits : Limits) (request : Request) → IsWritable limits request → RequestGives limits (request_words request) (Ok request)
 gives_request limits request h = grind (arith, common_steps)

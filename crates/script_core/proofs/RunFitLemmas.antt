@@ -9,6 +9,7 @@ use Rattle.lock_manager.specs.declared.request.Rules.{Rules}
 use Rattle.lock_manager.specs.declared.request.Request.{Request}
 use Rattle.lock_manager.specs.State.{State, opening_state}
 use Rattle.lock_manager.specs.Settling.{IsSettled}
+use Rattle.lock_manager.specs.Sections.{marked}
 use Rattle.session_core.specs.Event.{Event}
 use Rattle.session_core.specs.Runs.{Leads, IsStep, IsRun, AreNumbered, events_of}
 use Rattle.session_core.specs.Mail.{requests_sent}
@@ -18,7 +19,7 @@ use Rattle.script_core.specs.EntryReading.{IsWritableNote, IsWritableEvent}
 use Rattle.script_core.specs.Output.{IsOutput, processes_in}
 use Rattle.script_core.proofs.ProcessLemmas.{IsArrivalOf, arrivals_read}
 use Rattle.script_core.proofs.lengths.ArrivalLengthLemmas.{few_read}
-use Rattle.script_core.proofs.FitLemmas.{Fits, each_append, settles_fit, settles_settled, nothing_granted}
+use Rattle.script_core.proofs.FitLemmas.{Fits, each_append, settles_fit, settles_settled, nothing_granted, marked_fits}
 use Rattle.script_core.proofs.OutcomeFitLemmas.{request_fits}
 
 -- ---- a step
@@ -36,18 +37,19 @@ step_fits rules processes S event T fits settled of small step =
     (record { fits = fits; settled = settled; live = step.live; process = of.0; number = small }) of.1 step.comes_to in
     let told = step.outcome.told in
     let grants = step.grants in
-    let s = settles_fit rules.limits rules.policy step.outcome.after grants T o.after step.settles in
+    let behind = marked S event.p event.request step.outcome in
+    let s = settles_fit rules.limits rules.policy behind grants T (marked_fits rules.limits S event.p event.request step.outcome o.after) step.settles in
     let notes = each_append (IsWritableNote rules.limits) told grants o.told s.told in
     let count = s.count in
     let size : length event.notes ≡ length told + length grants = ap length step.are_notes ∙ length-append told grants in
     let few : length event.notes ≤ 64 =
     ⊎_elim (λ all. omega (arith, size, count, all))
     (λ rest.
-    let none : length grants ≡ 0 = ap length (nothing_granted rules.policy step.outcome.after grants T rest.1 step.settles) in
+    let none : length grants ≡ 0 = ap length (nothing_granted rules.policy behind grants T rest.1 step.settles) in
     let own = rest.0 in omega (arith, size, none, own)) o.few in
     record {
       after = s.after;
-      settled = settles_settled rules.policy step.outcome.after grants T step.settles;
+      settled = settles_settled rules.policy behind grants T step.settles;
       writable = record {
         process = of.0;
         number = small;

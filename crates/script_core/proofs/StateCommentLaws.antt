@@ -4,12 +4,14 @@ use Rattle.std.proofs.lemmas.Grind.{common_steps}
 use Rattle.fd_table.specs.Descriptors.{descriptor_limit}
 use Rattle.lock_manager.specs.declared.request.Rules.{Rules}
 use Rattle.lock_manager.specs.declared.request.ProcState.{ProcState}
+use Rattle.lock_manager.specs.declared.request.Visit.{Visit}
 use Rattle.lock_manager.specs.State.{State}
 use Rattle.script_core.specs.declared.states.States.{States}
 use Rattle.script_core.specs.declared.states.States.TheVariants as places
 use Rattle.script_core.specs.declared.state_lines.Opened.{Opened}
 use Rattle.script_core.specs.declared.state_lines.StateLine.{StateLine}
 use Rattle.script_core.specs.declared.state_lines.StateLine.TheVariants as lines
+use Rattle.script_core.specs.RequestText.{visit_words}
 use Rattle.script_core.specs.ReportText.{held_text, wait_text, state_word}
 use Rattle.script_core.specs.StateText.{marked_line, state_line_text, opened_text, IsStateText, IsChangesText, TellsState}
 use Rattle.script_core.specs.Explaining.{is_comment_line}
@@ -41,6 +43,17 @@ in_size file size =
     let one = codes "file " ++ decimal file in
     both (one ++ codes " size ") (decimal size) (both one (codes " size ") (both (codes "file ") (decimal file) refl (number file)) refl) (number size)
 
+in_shared : (visit : Visit) → InLine (flat_map (λ word. 32 ∷ word) (visit_words visit))
+in_shared visit = grind (arith, common_steps)
+
+in_section : (section p : ℕ) (visit : Visit)
+    → InLine (codes "section " ++ decimal section ++ codes " process " ++ decimal p ++ flat_map (λ word. 32 ∷ word) (visit_words visit))
+in_section section p visit =
+    let one = codes "section " ++ decimal section in
+    let two = one ++ codes " process " in
+    both (two ++ decimal p) (flat_map (λ word. 32 ∷ word) (visit_words visit))
+    (both two (decimal p) (both one (codes " process ") (both (codes "section ") (decimal section) refl (number section)) refl) (number p)) (in_shared visit)
+
 one_line : (line : StateLine) → IsOneLine (state_line_text line)
 one_line (lines.Held held) = record { line = held_text held; in_line = in_held held; is = refl }
 one_line (lines.Waits wait) = record { line = wait_text wait; in_line = in_wait wait; is = refl }
@@ -48,6 +61,11 @@ one_line (lines.Process p state) = record { line = codes "proc " ++ decimal p ++
 one_line (lines.Descriptor p fd opened) = record {
   line = codes "fd " ++ decimal p ++ codes " " ++ decimal fd ++ opened_text opened;
   in_line = in_descriptor p fd opened;
+  is = refl;
+}
+one_line (lines.Section section p visit) = record {
+  line = codes "section " ++ decimal section ++ codes " process " ++ decimal p ++ flat_map (λ word. 32 ∷ word) (visit_words visit);
+  in_line = in_section section p visit;
   is = refl;
 }
 one_line (lines.File file size) = record { line = codes "file " ++ decimal file ++ codes " size " ++ decimal size; in_line = in_size file size; is = refl }

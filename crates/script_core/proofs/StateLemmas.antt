@@ -15,14 +15,16 @@ use Rattle.wait_core.specs.declared.Wait.{Wait}
 use Rattle.lock_manager.specs.declared.request.ProcState.{ProcState}
 use Rattle.lock_manager.specs.declared.request.Rules.{Rules}
 use Rattle.lock_manager.specs.declared.manager.Manager.{Manager}
-use Rattle.lock_manager.specs.State.{State}
+use Rattle.lock_manager.specs.declared.request.TheConstants.{SECTIONS}
+use Rattle.lock_manager.specs.declared.request.Visit.{Visit}
+use Rattle.lock_manager.specs.State.{State, Visits}
 use Rattle.lock_manager.specs.ManagerView.{StandsFor, processes_of, state_at}
 use Rattle.script_core.specs.Output.{Extends}
 use Rattle.script_core.specs.declared.states.States.{States}
 use Rattle.script_core.specs.declared.states.States.TheVariants as places
 use Rattle.script_core.specs.declared.state_lines.StateLine.{StateLine}
 use Rattle.script_core.specs.declared.state_lines.StateLine.TheVariants as lines
-use Rattle.script_core.specs.StateText.{AreMissing, AreStateLines, AreToldAgainst, AsksForNoState, IsAmong, IsChangesText, IsKept, IsStateText, TellsState, marked_line, standing_line, standing_lines, descriptor_line, descriptor_lines, all_descriptor_lines, size_line, size_lines}
+use Rattle.script_core.specs.StateText.{AreMissing, AreStateLines, AreToldAgainst, AsksForNoState, IsAmong, IsChangesText, IsKept, IsStateText, TellsState, marked_line, standing_line, standing_lines, descriptor_line, descriptor_lines, all_descriptor_lines, visit_line, visit_lines, section_lines, size_line, size_lines}
 
 -- where no process stands
 pub none_standing : (states : ℕ → ProcState) (old : List StateLine) → old ≡ old ++ standing_lines states 0
@@ -57,6 +59,28 @@ pub more_open_anywhere : (D : Descriptors) (descriptors : ℕ) (old mid new : Li
 unfolding all_descriptor_lines
 more_open_anywhere D descriptors old mid new index was is = grind (arith, common_steps, add-one, append_assoc)
 
+-- nobody in a section, and one process more
+pub none_visiting : (visits : Visits) (section : ℕ) (old : List StateLine) → old ≡ old ++ visit_lines visits section 0
+unfolding visit_lines
+none_visiting visits section old = sym (append-nil old)
+
+pub more_visiting : (visits : Visits) (section : ℕ) (old mid new : List StateLine) (index : ℕ) (visit : Option Visit) → visit ≡ visits (index + 1) section
+    → mid ≡ old ++ visit_lines visits section index → new ≡ mid ++ visit_line section (index + 1) visit
+    → new ≡ old ++ visit_lines visits section (index + 1)
+unfolding visit_lines
+more_visiting visits section old mid new index visit h h2 h3 = grind (arith, common_steps, append_assoc, add-one)
+
+-- no section, and one more
+pub none_visited : (visits : Visits) (processes : ℕ) (old : List StateLine) → old ≡ old ++ section_lines visits processes 0
+unfolding section_lines
+none_visited visits processes old = sym (append-nil old)
+
+pub more_visited : (visits : Visits) (processes : ℕ) (old mid new : List StateLine) (section : ℕ)
+    → mid ≡ old ++ section_lines visits processes section → new ≡ mid ++ visit_lines visits section processes
+    → new ≡ old ++ section_lines visits processes (section + 1)
+unfolding section_lines
+more_visited visits processes old mid new section was is = grind (arith, common_steps, add-one, append_assoc)
+
 -- no files
 pub none_sized : (sizes : ℕ → ℕ) (old : List StateLine) → old ≡ old ++ size_lines sizes 0
 unfolding size_lines
@@ -73,13 +97,14 @@ same_standing : (states others : ℕ → ProcState) (n : ℕ) → ((p : ℕ) →
 unfolding standing_lines
 same_standing states others n h = grind (arith, common_steps)
 
--- the locks, the waits, the processes, the descriptors and the files, one group behind another, are the state
-pub lines_told : (manager : Manager) (descriptors : ℕ) (S : State) (held : List Held) (waits : List Wait) (t0 t1 t2 t3 t4 t5 : List StateLine)
+-- the locks, the waits, the processes, the descriptors, the visits and the files, one group behind another, are the state
+pub lines_told : (manager : Manager) (descriptors : ℕ) (S : State) (held : List Held) (waits : List Wait) (t0 t1 t2 t3 t4 t5 t6 : List StateLine)
     → StandsFor manager S → IsHeldReport (mode_in S.changes) (flock_mode_in S.flock_changes) held → waits ≡ S.waits → t0 ≡ []
     → t1 ≡ t0 ++ map lines.Held held → t2 ≡ t1 ++ map lines.Waits waits → t3 ≡ t2 ++ standing_lines (state_at manager) (processes_of manager)
-    → t4 ≡ t3 ++ all_descriptor_lines S.descriptors descriptors (processes_of manager) → t5 ≡ t4 ++ size_lines S.descriptors.sizes FILES
-    → AreStateLines (processes_of manager) descriptors S t5
-lines_told manager descriptors S held waits t0 t1 t2 t3 t4 t5 stands reported same none first second third fourth fifth =
+    → t4 ≡ t3 ++ all_descriptor_lines S.descriptors descriptors (processes_of manager)
+    → t5 ≡ t4 ++ section_lines S.visits (processes_of manager) SECTIONS → t6 ≡ t5 ++ size_lines S.descriptors.sizes FILES
+    → AreStateLines (processes_of manager) descriptors S t6
+lines_told manager descriptors S held waits t0 t1 t2 t3 t4 t5 t6 stands reported same none first second third fourth fifth sixth =
     grind (arith, common_steps, same_standing)
 
 -- the text of these lines, behind the old one

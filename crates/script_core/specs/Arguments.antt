@@ -11,6 +11,7 @@ use Rattle.fd_table.specs.declared.Limits.{Limits}
 use Rattle.wait_core.specs.declared.Policy.{Policy}
 use Rattle.range_core.specs.Facts.{MatchFact}
 use Rattle.fd_table.specs.Descriptors.{process_limit}
+use Rattle.lock_manager.specs.declared.request.TheConstants.{SECTIONS}
 use Rattle.lock_manager.specs.declared.request.Errno.{Errno}
 use Rattle.lock_manager.specs.declared.request.FlockOp.{FlockOp}
 use Rattle.script_core.specs.declared.script.Cause.{Cause}
@@ -21,12 +22,14 @@ use Rattle.script_core.specs.RequestText.{access_word, mode_word, kind_word, whe
 
 -- what may stand in the place of an argument
 pub data Argument : Type 0 where
-  FileNumber DescriptorNumber AnyNumber UnsignedNumber AccessWord ModeWord KindWord WhenceWord OpWord NbWord ErrorWord PolicyWord LimitsWord : Argument
+  FileNumber SectionNumber DescriptorNumber AnyNumber UnsignedNumber : Argument
+  AccessWord ModeWord KindWord WhenceWord OpWord NbWord SharedWord ErrorWord PolicyWord LimitsWord : Argument
   ProcessNumber : Limits → Argument
 
 -- the word is a spelling of such an argument
 abbrev pub Spells : Argument → List ℕ → Type 0
 Spells FileNumber word = (n : ℕ) × (n < FILES) × (word ≡ decimal n)
+Spells SectionNumber word = (n : ℕ) × (n < SECTIONS) × (word ≡ decimal n)
 Spells DescriptorNumber word = (n : ℕ) × (n < 2 ^ 32) × (word ≡ decimal n)
 Spells AnyNumber word = (z : ℤ) × FitsSigned w64 z × (word ≡ signed_decimal z)
 Spells UnsignedNumber word = (n : ℕ) × (n < 2 ^ 64) × (word ≡ decimal n)
@@ -37,6 +40,7 @@ Spells KindWord word = (kind : Kind) × (word ≡ kind_word kind)
 Spells WhenceWord word = (whence : Whence) × (word ≡ whence_word whence)
 Spells OpWord word = (op : FlockOp) × (word ≡ op_word op)
 Spells NbWord word = word ≡ codes "nb"
+Spells SharedWord word = word ≡ codes "sh"
 Spells ErrorWord word = (error : Errno) × (word ≡ error_name error)
 Spells PolicyWord word = (policy : Policy) × (word ≡ policy_word policy)
 Spells LimitsWord word = (limits : Limits) × (word ≡ limits_word limits)
@@ -44,6 +48,7 @@ Spells LimitsWord word = (limits : Limits) × (word ≡ limits_word limits)
 -- what is wrong with a word that spells no such argument
 abbrev pub cause_of : Argument → Cause
 cause_of FileNumber = Number
+cause_of SectionNumber = Number
 cause_of DescriptorNumber = Number
 cause_of AnyNumber = Number
 cause_of UnsignedNumber = Number
@@ -54,6 +59,7 @@ cause_of KindWord = Word
 cause_of WhenceWord = Word
 cause_of OpWord = Word
 cause_of NbWord = Word
+cause_of SharedWord = Word
 cause_of ErrorWord = Word
 cause_of PolicyWord = Word
 cause_of LimitsWord = Word
@@ -120,6 +126,18 @@ process_command limits name = plain_command name (ProcessNumber limits ∷ [])
 abbrev pub exit_command : Command
 exit_command = plain_command (codes "exit") []
 
+-- enter: a section, and then `sh` or nothing
+abbrev pub enter_command : Command
+enter_command = record { name = codes "enter"; required = SectionNumber ∷ []; optional = SharedWord ∷ [] }
+
+-- leave: a section
+abbrev pub leave_command : Command
+leave_command = plain_command (codes "leave") (SectionNumber ∷ [])
+
+-- bail: no argument
+abbrev pub bail_command : Command
+bail_command = plain_command (codes "bail") []
+
 -- all commands, with the processes that these limits have
 abbrev pub commands : Limits → List Command
 commands limits =
@@ -128,7 +146,7 @@ commands limits =
     ∷ lock_command (codes "getlk") ∷ lock_command (codes "setlk") ∷ lock_command (codes "setlkw")
     ∷ lock_command (codes "ogetlk") ∷ lock_command (codes "osetlk") ∷ lock_command (codes "osetlkw")
     ∷ flock_command ∷ process_command limits (codes "fork") ∷ process_command limits (codes "signal") ∷ process_command limits (codes "kill")
-    ∷ exit_command ∷ []
+    ∷ exit_command ∷ enter_command ∷ leave_command ∷ bail_command ∷ []
 
 -- the command of this word, if it is one
 abbrev pub command_named : Limits → List ℕ → Option Command

@@ -1,5 +1,5 @@
 -- The lines that explain a run: each begins with `#` and stands behind the line of its event, or at the end (this project's choice).
-use Rattle.std.specs.Prelude.{◌≡◌, ℕ, zero, suc, ◌+◌, ◌-◌, ◌==◌, ◌⊎◌, Bool, true, false, not, IsTrue, Option, Some, None, Ok, List, [], ◌∷◌, ◌++◌, length, filter, flat_map, codes, decimal}
+use Rattle.std.specs.Prelude.{◌≡◌, ℕ, zero, suc, ◌+◌, ◌-◌, ◌==◌, ◌⊎◌, if◌then◌else◌, Bool, true, false, not, IsTrue, Option, Some, None, Ok, List, [], ◌∷◌, ◌++◌, length, filter, flat_map, codes, decimal}
 use Rattle.lock_book.specs.declared.Held.{Held}
 use Rattle.fd_table.specs.Descriptors.{descriptor_limit}
 use Rattle.lock_book.specs.Changes.{mode_in, flock_mode_in}
@@ -18,10 +18,12 @@ use Rattle.lock_manager.specs.declared.request.Note.TheVariants.{Answer, Waits}
 use Rattle.lock_manager.specs.declared.request.InTheWay.{InTheWay}
 use Rattle.lock_manager.specs.declared.request.InTheWay.TheVariants as obstacles
 use Rattle.lock_manager.specs.declared.request.Request.{Request}
-use Rattle.lock_manager.specs.declared.request.Request.TheVariants.{OpenFile, Dup, DupTo, CloseFd, Seek, Resize, Lk, Flock, Fork, Exit, Signal, Kill}
+use Rattle.lock_manager.specs.declared.request.Request.TheVariants.{OpenFile, Dup, DupTo, CloseFd, Seek, Resize, Lk, Flock, Fork, Exit, Signal, Kill, Enter, Leave, Bail}
 use Rattle.lock_manager.specs.declared.request.ProcState.{ProcState}
 use Rattle.lock_manager.specs.declared.request.ProcState.TheVariants.{Unborn, Live, Waiting, Ended}
-use Rattle.lock_manager.specs.State.{State, locks_held, opening_state}
+use Rattle.lock_manager.specs.declared.request.Visit.{Visit}
+use Rattle.lock_manager.specs.State.{State, Visits, locks_held, opening_state}
+use Rattle.lock_manager.specs.Sections.{is_together}
 use Rattle.lock_manager.specs.Asking.{AsksFor, IsFirstInTheWay}
 use Rattle.session_core.specs.Event.{Event}
 use Rattle.session_core.specs.Mail.{requests_sent}
@@ -90,6 +92,9 @@ ended_wait S (Fork child) = None
 ended_wait S Exit = None
 ended_wait S (Signal target) = None
 ended_wait S (Kill target) = wait_of S.waits target
+ended_wait S (Enter section visit) = None
+ended_wait S (Leave section) = None
+ended_wait S Bail = None
 
 -- the line of the wait that ended with its process, if one did
 abbrev pub ended_line : Event → Option Wait → List ℕ
@@ -129,6 +134,14 @@ is_edeadlk (replies.Err EINTR) = false
 is_edeadlk (replies.Err EMFILE) = false
 is_edeadlk (replies.Err ESRCH) = false
 
+-- whether a reply says that the request was done
+abbrev pub is_ok_reply : Reply → Bool
+is_ok_reply replies.Ok = true
+is_ok_reply (replies.Fd fd) = false
+is_ok_reply replies.Free = false
+is_ok_reply (replies.Held mode start len pid) = false
+is_ok_reply (replies.Err error) = false
+
 -- whether the first of these notes, the caller's, says EDEADLK
 abbrev pub is_deadlock : List Note → Bool
 is_deadlock [] = false
@@ -163,8 +176,47 @@ pub record IsCycleOf (policy : Policy) (T : State) (event : Event) (links : List
   pub none : is_deadlock event.notes ≡ false → links ≡ []
   pub some : is_deadlock event.notes ≡ true → ((wait : Wait) → ¬ AsksFor T event.p event.n event.request wait) ⊎ TellsCycleOf policy T event links
 
+-- whether the first of these notes, the caller's, says Ok
+abbrev pub is_done : List Note → Bool
+is_done [] = false
+is_done (Answer p n reply ∷ notes) = is_ok_reply reply
+is_done (Waits p n ∷ notes) = false
+
+-- the line of another process that is in the section
+abbrev pub together_line : Event → ℕ → ℕ → List ℕ
+together_line event section q = comment event.p event.n (codes "together with " ++ decimal q ++ codes " in " ++ decimal section ++ 10 ∷ [])
+
+-- the lines of the processes from 1 on, so many of them, with which the event's process is in the section by this visit, and is not meant to be
+unfoldable pub together_lines : Event → Visits → ℕ → Visit → ℕ → List ℕ
+together_lines event visits section visit zero = []
+together_lines event visits section visit (suc q) =
+    together_lines event visits section visit q
+    ++ (if is_together visits event.p section visit (suc q) then together_line event section (suc q) else [])
+
+-- those of an enter by this request, of so many processes
+abbrev pub entered_lines : ℕ → Event → Visits → Request → List ℕ
+entered_lines processes event visits (Enter section visit) = together_lines event visits section visit processes
+entered_lines processes event visits (OpenFile file access) = []
+entered_lines processes event visits (Dup fd) = []
+entered_lines processes event visits (DupTo fd to) = []
+entered_lines processes event visits (CloseFd fd) = []
+entered_lines processes event visits (Seek fd offset) = []
+entered_lines processes event visits (Resize fd size) = []
+entered_lines processes event visits (Lk fd cmd lock) = []
+entered_lines processes event visits (Flock fd op nb) = []
+entered_lines processes event visits (Fork child) = []
+entered_lines processes event visits Exit = []
+entered_lines processes event visits (Signal target) = []
+entered_lines processes event visits (Kill target) = []
+entered_lines processes event visits (Leave section) = []
+entered_lines processes event visits Bail = []
+
+-- with whom the event's process is where it isn't meant to be, once it has entered
+abbrev pub lines_together : ℕ → Event → State → List ℕ
+lines_together processes event T = if is_done event.notes then entered_lines processes event T.visits event.request else []
+
 -- the lines explain the event, from the state S to the state T of so many processes: which wait it ended, which locks it released, which it
--- lost, and then what was in the way, or which cycle the request would have closed
+-- lost, and then what was in the way, or which cycle the request would have closed, or with whom the process is in the section that it entered
 pub record Explains (rules : Rules) (processes : ℕ) (S : State) (event : Event) (T : State) (text : List ℕ) : Type 0 where
   pub released : List Held
   pub are_released : AreReleased processes (descriptor_limit rules.limits) S (closed_by rules.limits S event.p event.request) released
@@ -174,6 +226,7 @@ pub record Explains (rules : Rules) (processes : ℕ) (S : State) (event : Event
   pub is_cycle : TellsDeadlock rules.policy T event links
   pub is : text ≡ ended_line event (ended_wait S event.request) ++ loss_lines event (codes "released ") released
       ++ loss_lines event (codes "lost ") (lost S T event.p event.request) ++ obstacle_line event obstacle ++ deadlock_line event links
+      ++ lines_together processes event T
 
 -- the text is the line of each of these events, which have the numbers from this one on, with the lines that explain it behind it, and what
 -- is asked for of the state that it left; they lead from the state S to the state T

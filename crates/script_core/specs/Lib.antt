@@ -21,3 +21,4 @@ pub mod Files
 pub mod Deadlocks
 pub mod Losses
 pub mod Explaining
+pub mod WithoutSections

@@ -17,7 +17,7 @@ use Rattle.lock_manager.specs.declared.request.FlockOp.TheVariants.{Sh, Ex, Un}
 use Rattle.lock_manager.specs.declared.request.ProcState.{ProcState}
 use Rattle.lock_manager.specs.declared.request.ProcState.TheVariants.{Unborn, Live, Waiting, Ended}
 use Rattle.lock_manager.specs.declared.request.Request.{Request}
-use Rattle.lock_manager.specs.declared.request.Request.TheVariants.{OpenFile, Dup, DupTo, CloseFd, Seek, Resize, Lk, Flock, Fork, Exit, Signal, Kill}
+use Rattle.lock_manager.specs.declared.request.Request.TheVariants.{OpenFile, Dup, DupTo, CloseFd, Seek, Resize, Lk, Flock, Fork, Exit, Signal, Kill, Enter, Leave, Bail}
 use Rattle.lock_manager.specs.declared.request.Rules.{Rules}
 use Rattle.lock_manager.specs.State.{State, opening_state}
 use Rattle.lock_manager.specs.LockWords.{wanted_mode}
@@ -55,6 +55,9 @@ closed_by limits S p (Fork child) = Nothing
 closed_by limits S p Exit = AllOf p
 closed_by limits S p (Signal target) = Nothing
 closed_by limits S p (Kill target) = killed target (S.states target)
+closed_by limits S p (Enter section visit) = Nothing
+closed_by limits S p (Leave section) = Nothing
+closed_by limits S p Bail = if S.refused p then AllOf p else Nothing
 
 -- whether the test holds of what a descriptor refers to, if it is open
 abbrev pub is_such : (Look → Bool) → Option Look → Bool
@@ -148,6 +151,9 @@ flock_before S p (Fork child) = None
 flock_before S p Exit = None
 flock_before S p (Signal target) = None
 flock_before S p (Kill target) = None
+flock_before S p (Enter section visit) = None
+flock_before S p (Leave section) = None
+flock_before S p Bail = None
 
 -- whether the owner of a flock lock has one on the file
 abbrev pub has_flock : State → ℕ → Owner → Bool
@@ -188,6 +194,9 @@ is_unlock (Fork child) = false
 is_unlock Exit = false
 is_unlock (Signal target) = false
 is_unlock (Kill target) = false
+is_unlock (Enter section visit) = false
+is_unlock (Leave section) = false
+is_unlock Bail = false
 
 -- in a run from the opening, the locks that an event releases and those that it loses are the lines of the report before it whose owner has
 -- none on that file in the report behind it, byte locks and flock locks apart; an unlock releases and loses none

@@ -17,7 +17,9 @@ use Rattle.lock_manager.specs.declared.request.LkCmd.TheVariants.{GetLk, SetLk, 
 use Rattle.lock_manager.specs.declared.request.FlockOp.{FlockOp}
 use Rattle.lock_manager.specs.declared.request.FlockOp.TheVariants.{Sh, Ex, Un}
 use Rattle.lock_manager.specs.declared.request.Request.{Request}
-use Rattle.lock_manager.specs.declared.request.Request.TheVariants.{OpenFile, Dup, DupTo, CloseFd, Seek, Resize, Lk, Flock, Fork, Exit, Signal, Kill}
+use Rattle.lock_manager.specs.declared.request.Request.TheVariants.{OpenFile, Dup, DupTo, CloseFd, Seek, Resize, Lk, Flock, Fork, Exit, Signal, Kill, Enter, Leave, Bail}
+use Rattle.lock_manager.specs.declared.request.Visit.{Visit}
+use Rattle.lock_manager.specs.declared.request.Visit.TheVariants.{Sole, Shared}
 use Rattle.script_core.specs.declared.commands.CommandName.{CommandName}
 use Rattle.script_core.specs.declared.commands.CommandName.TheVariants as names
 
@@ -73,6 +75,9 @@ command_word names.Fork = codes "fork"
 command_word names.Signal = codes "signal"
 command_word names.Kill = codes "kill"
 command_word names.Exit = codes "exit"
+command_word names.Enter = codes "enter"
+command_word names.Leave = codes "leave"
+command_word names.Bail = codes "bail"
 
 -- the member l_pid is written only where it isn't 0
 abbrev pub pid_words : ℤ → List (List ℕ)
@@ -84,6 +89,11 @@ pid_words (negsuc n) = signed_decimal (negsuc n) ∷ []
 abbrev pub nb_words : Bool → List (List ℕ)
 nb_words true = codes "nb" ∷ []
 nb_words false = []
+
+-- a visit is written only where it is shared
+abbrev pub visit_words : Visit → List (List ℕ)
+visit_words Sole = []
+visit_words Shared = codes "sh" ∷ []
 
 -- the arguments of a lock command: descriptor, kind, whence, start and length
 abbrev pub lock_words : ℕ → Lock → List (List ℕ)
@@ -104,6 +114,9 @@ request_words (Fork child) = codes "fork" ∷ decimal child ∷ []
 request_words Exit = codes "exit" ∷ []
 request_words (Signal target) = codes "signal" ∷ decimal target ∷ []
 request_words (Kill target) = codes "kill" ∷ decimal target ∷ []
+request_words (Enter section visit) = codes "enter" ∷ decimal section ∷ visit_words visit
+request_words (Leave section) = codes "leave" ∷ decimal section ∷ []
+request_words Bail = codes "bail" ∷ []
 
 -- the words with one space between each two
 abbrev pub request_text : Request → List ℕ

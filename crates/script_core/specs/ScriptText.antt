@@ -3,9 +3,10 @@ use Rattle.std.specs.Prelude.{◌≡◌, ℕ, ◌^◌, ◌<◌, ◌≤◌, ◌�
 use Rattle.std.specs.Int.{w64}
 use Rattle.fd_table.specs.declared.TheConstants.{FILES}
 use Rattle.fd_table.specs.declared.Limits.{Limits}
+use Rattle.lock_manager.specs.declared.request.TheConstants.{SECTIONS}
 use Rattle.lock_manager.specs.declared.request.Rules.{Rules}
 use Rattle.lock_manager.specs.declared.request.Request.{Request}
-use Rattle.lock_manager.specs.declared.request.Request.TheVariants.{OpenFile, Dup, DupTo, CloseFd, Seek, Resize, Lk, Flock, Fork, Exit, Signal, Kill}
+use Rattle.lock_manager.specs.declared.request.Request.TheVariants.{OpenFile, Dup, DupTo, CloseFd, Seek, Resize, Lk, Flock, Fork, Exit, Signal, Kill, Enter, Leave, Bail}
 use Rattle.fd_table.specs.Descriptors.{process_limit}
 use Rattle.script_core.specs.RequestText.{request_words}
 
@@ -37,6 +38,9 @@ IsWritable limits (Fork child) = IsProcess limits child
 IsWritable limits Exit = ⊤
 IsWritable limits (Signal target) = IsProcess limits target
 IsWritable limits (Kill target) = IsProcess limits target
+IsWritable limits (Enter section visit) = section < SECTIONS
+IsWritable limits (Leave section) = section < SECTIONS
+IsWritable limits Bail = ⊤
 
 -- the request is one in which a pid of 0 may be written or left out
 abbrev pub HasZeroPid : Request → Type 0
@@ -52,6 +56,9 @@ HasZeroPid (Fork child) = ⊥
 HasZeroPid Exit = ⊥
 HasZeroPid (Signal target) = ⊥
 HasZeroPid (Kill target) = ⊥
+HasZeroPid (Enter section visit) = ⊥
+HasZeroPid (Leave section) = ⊥
+HasZeroPid Bail = ⊥
 
 -- the words say the request: they are its words, or these with a pid of 0 behind them
 abbrev pub Says : List (List ℕ) → Request → Type 0

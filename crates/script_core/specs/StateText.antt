@@ -9,14 +9,16 @@ use Rattle.lock_book.specs.Changes.{mode_in, flock_mode_in}
 use Rattle.lock_book.specs.Reports.{IsHeldReport}
 use Rattle.lock_manager.specs.declared.request.ProcState.{ProcState}
 use Rattle.lock_manager.specs.declared.request.ProcState.TheVariants.{Unborn, Live, Waiting, Ended}
+use Rattle.lock_manager.specs.declared.request.TheConstants.{SECTIONS}
+use Rattle.lock_manager.specs.declared.request.Visit.{Visit}
 use Rattle.lock_manager.specs.declared.request.Rules.{Rules}
-use Rattle.lock_manager.specs.State.{State}
+use Rattle.lock_manager.specs.State.{State, Visits}
 use Rattle.script_core.specs.declared.state_lines.Opened.{Opened}
 use Rattle.script_core.specs.declared.state_lines.StateLine.{StateLine}
 use Rattle.script_core.specs.declared.state_lines.StateLine.TheVariants as lines
 use Rattle.script_core.specs.declared.states.States.{States}
 use Rattle.script_core.specs.declared.states.States.TheVariants as places
-use Rattle.script_core.specs.RequestText.{access_word}
+use Rattle.script_core.specs.RequestText.{access_word, visit_words}
 use Rattle.script_core.specs.ReportText.{held_line, wait_line, state_word}
 
 -- where a process stands
@@ -39,12 +41,18 @@ descriptor_text p fd opened = codes "fd " ++ decimal p ++ codes " " ++ decimal f
 abbrev pub size_text : ℕ → ℕ → List ℕ
 size_text file size = codes "file " ++ decimal file ++ codes " size " ++ decimal size ++ 10 ∷ []
 
+-- a section, and a process that is in it, by a shared visit or not
+abbrev pub visit_text : ℕ → ℕ → Visit → List ℕ
+visit_text section p visit =
+    codes "section " ++ decimal section ++ codes " process " ++ decimal p ++ flat_map (λ word. 32 ∷ word) (visit_words visit) ++ 10 ∷ []
+
 -- what a line of the state tells, which ends the line
 abbrev pub state_line_text : StateLine → List ℕ
 state_line_text (lines.Held held) = held_line held
 state_line_text (lines.Waits wait) = wait_line wait
 state_line_text (lines.Process p state) = standing_text p state
 state_line_text (lines.Descriptor p fd opened) = descriptor_text p fd opened
+state_line_text (lines.Section section p visit) = visit_text section p visit
 state_line_text (lines.File file size) = size_text file size
 
 -- a line of the state behind a mark
@@ -67,6 +75,11 @@ abbrev pub descriptor_line : ℕ → ℕ → Option Look → List StateLine
 descriptor_line p fd None = []
 descriptor_line p fd (Some look) = lines.Descriptor p fd (opened_of look) ∷ []
 
+-- the line of a process in a section, where it is in it
+abbrev pub visit_line : ℕ → ℕ → Option Visit → List StateLine
+visit_line section p None = []
+visit_line section p (Some visit) = lines.Section section p visit ∷ []
+
 -- the line of a file of this size, where it isn't empty
 abbrev pub size_line : ℕ → ℕ → List StateLine
 size_line file zero = []
@@ -87,18 +100,29 @@ unfoldable pub all_descriptor_lines : Descriptors → ℕ → ℕ → List State
 all_descriptor_lines D descriptors zero = []
 all_descriptor_lines D descriptors (suc n) = all_descriptor_lines D descriptors n ++ descriptor_lines D (suc n) descriptors
 
+-- the lines of the processes from 1 on that are in the section, of so many
+unfoldable pub visit_lines : Visits → ℕ → ℕ → List StateLine
+visit_lines visits section zero = []
+visit_lines visits section (suc n) = visit_lines visits section n ++ visit_line section (suc n) (visits (suc n) section)
+
+-- those of the sections from 0 on, so many of them, of so many processes
+unfoldable pub section_lines : Visits → ℕ → ℕ → List StateLine
+section_lines visits processes zero = []
+section_lines visits processes (suc n) = section_lines visits processes n ++ visit_lines visits n processes
+
 -- the lines of the files from 0 on, so many of them
 unfoldable pub size_lines : (ℕ → ℕ) → ℕ → List StateLine
 size_lines sizes zero = []
 size_lines sizes (suc n) = size_lines sizes n ++ size_line n (sizes n)
 
 -- the lines of the whole state of so many processes with so many descriptors each: the locks that are held, the waits in order of arrival,
--- where each process stands that was ever born, each descriptor that is open, by process, and each file that isn't empty
+-- where each process stands that was ever born, each descriptor that is open, by process, who is in which section, by section, and each file that
+-- isn't empty
 pub record AreStateLines (processes descriptors : ℕ) (S : State) (told : List StateLine) : Type 0 where
   pub held : List Held
   pub is_held : IsHeldReport (mode_in S.changes) (flock_mode_in S.flock_changes) held
   pub is : told ≡ map lines.Held held ++ map lines.Waits S.waits ++ standing_lines S.states processes
-      ++ all_descriptor_lines S.descriptors descriptors processes ++ size_lines S.descriptors.sizes FILES
+      ++ all_descriptor_lines S.descriptors descriptors processes ++ section_lines S.visits processes SECTIONS ++ size_lines S.descriptors.sizes FILES
 
 -- the text of these lines, each behind `#` and a space
 abbrev pub IsStateText : ℕ → ℕ → State → List ℕ → Type 0

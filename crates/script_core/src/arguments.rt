@@ -1,13 +1,15 @@
 //! The arguments of a command, each as its type.
 ghost use Rattle.std.specs.Prelude.{◌≡◌, ◌<◌, ◌^◌, MatchResult, codes, decimal};
 ghost use Rattle.std.specs.Fmt.{signed_decimal};
-ghost use Rattle.script_core.specs.Arguments.{FileNumber, DescriptorNumber, AnyNumber, UnsignedNumber, ProcessNumber, NbWord, PolicyWord, LimitsWord, IsBad};
+ghost use Rattle.script_core.specs.Arguments.{FileNumber, SectionNumber, SharedWord, DescriptorNumber, AnyNumber, UnsignedNumber, ProcessNumber, NbWord, PolicyWord, LimitsWord, IsBad};
+ghost use Rattle.lock_manager.specs.declared.request.TheConstants.{SECTIONS};
 ghost use Rattle.script_core.specs.HeaderText.{policy_word, limits_word};
 ghost use Rattle.script_core.specs.ScriptText.{IsProcess};
 
 use crate::Cause;
 use crate::numbers::{integer_of, natural_of};
 use fd_table::{FILES, Limits};
+use lock_manager::SECTIONS;
 use wait_core::Policy;
 
 /// The number of a process, of which there are as many as the limits say.
@@ -29,6 +31,27 @@ pub fn read_file(word: &str) -> Result<u8, Cause>
     match natural_of(word) {
         Some(file) if file < u64::from(FILES) => Ok(file as u8),
         _ => Err(Cause::Number),
+    }
+}
+
+/// The number of a section.
+#[tactic(auto, using(crate::proofs::NumberLemmas::one_number))]
+pub fn read_section(word: &str) -> Result<u8, Cause>
+    ensures { MatchResult result (λ section. (section < SECTIONS) × (word.now ≡ decimal section)) (IsBad SectionNumber word.now) }
+{
+    match natural_of(word) {
+        Some(section) if section < u64::from(SECTIONS) => Ok(section as u8),
+        _ => Err(Cause::Number),
+    }
+}
+
+/// The word of a shared visit.
+pub fn read_shared(word: &str) -> Result<(), Cause>
+    ensures { MatchResult result (λ unit. word.now ≡ codes "sh") (IsBad SharedWord word.now) }
+{
+    match word {
+        "sh" => Ok(()),
+        _ => Err(Cause::Word),
     }
 }
 

@@ -4,15 +4,17 @@ ghost use Rattle.std.specs.Fmt.{signed_decimal};
 ghost use Rattle.fd_table.specs.declared.Limits.{Limits};
 ghost use Rattle.script_core.specs.Words.{texts};
 ghost use Rattle.script_core.specs.RequestText.{command_word, lock_command_word, lock_words};
-ghost use Rattle.script_core.specs.Arguments.{DescriptorNumber, AnyNumber, ProcessNumber, IsFirstBad, AreRefused, open_command, dup_to_command, exit_command, flock_command, lock_arguments, lock_command};
+ghost use Rattle.script_core.specs.Arguments.{DescriptorNumber, AnyNumber, ProcessNumber, IsFirstBad, AreRefused, open_command, dup_to_command, exit_command, enter_command, leave_command, bail_command, flock_command, lock_arguments, lock_command};
 ghost use Rattle.script_core.specs.ScriptText.{IsProcess};
 ghost use Rattle.script_core.specs.Reading.{CommandGives, RequestGives};
 
 use crate::Cause;
-use crate::arguments::{read_descriptor, read_file, read_nb, read_number, read_process};
+use crate::arguments::{
+    read_descriptor, read_file, read_nb, read_number, read_process, read_section, read_shared,
+};
 use crate::word_tables::{command_name, read_access, read_kind, read_op, read_whence};
 use fd_table::Limits;
-use lock_manager::{LkCmd, Lock, Request};
+use lock_manager::{LkCmd, Lock, Request, Visit};
 
 /// The name of a command.
 #[derive(Clone, Copy)]
@@ -29,6 +31,9 @@ pub enum CommandName {
     Signal,
     Kill,
     Exit,
+    Enter,
+    Leave,
+    Bail,
 }
 
 /// The request that a command of this name makes of its arguments, where a script has these limits.
@@ -70,6 +75,9 @@ fn read_named(limits: Limits, command: CommandName, arguments: &[&str]) -> Resul
             target,
         }),
         CommandName::Exit => read_exit(arguments),
+        CommandName::Enter => read_enter(arguments),
+        CommandName::Leave => read_leave(arguments),
+        CommandName::Bail => read_bail(arguments),
     }
 }
 
@@ -136,6 +144,51 @@ fn read_exit(arguments: &[&str]) -> Result<Request, Cause>
 {
     match arguments {
         [] => Ok(Request::Exit),
+        _ => Err(Cause::Count),
+    }
+}
+
+/// enter: its argument, and then `sh` where it is written.
+fn read_enter(arguments: &[&str]) -> Result<Request, Cause>
+    ensures { (limits : Limits) → CommandGives limits (codes "enter" ∷ texts arguments.now) enter_command (texts arguments.now) result }
+{
+    match arguments {
+        [section] => {
+            let section = read_section(section)?;
+            Ok(Request::Enter {
+                section,
+                visit: Visit::Sole,
+            })
+        }
+        [section, shared] => {
+            let section = read_section(section)?;
+            read_shared(shared)?;
+            Ok(Request::Enter {
+                section,
+                visit: Visit::Shared,
+            })
+        }
+        _ => Err(Cause::Count),
+    }
+}
+
+/// The argument of leave: SECTION.
+fn read_leave(arguments: &[&str]) -> Result<Request, Cause>
+    ensures { (limits : Limits) → CommandGives limits (codes "leave" ∷ texts arguments.now) leave_command (texts arguments.now) result }
+{
+    let [section] = arguments else {
+        return Err(Cause::Count);
+    };
+    let section = read_section(section)?;
+    Ok(Request::Leave { section })
+}
+
+/// The arguments of bail: none.
+fn read_bail(arguments: &[&str]) -> Result<Request, Cause>
+    ensures { (limits : Limits) → CommandGives limits (codes "bail" ∷ texts arguments.now) bail_command (texts arguments.now) result }
+{
+    match arguments {
+        [] => Ok(Request::Bail),
         _ => Err(Cause::Count),
     }
 }

@@ -12,7 +12,7 @@ ghost use Rattle.script_core.specs.EntryText.{entry_line, tag};
 ghost use Rattle.script_core.specs.Output.{Extends};
 ghost use Rattle.script_core.specs.Files.{IsWithinFiles};
 ghost use Rattle.script_core.specs.Deadlocks.{TellsCycleIfAny, first_step_text, next_step_text, step_text};
-ghost use Rattle.script_core.specs.Explaining.{Explains, ExplainsRun, StandsInTheWay, IsCycleOf, comment, deadlock_line, ended_line, in_the_way_line, obstacle_line, loss_line, loss_lines};
+ghost use Rattle.script_core.specs.Explaining.{Explains, ExplainsRun, StandsInTheWay, IsCycleOf, comment, deadlock_line, ended_line, in_the_way_line, obstacle_line, loss_line, loss_lines, together_line, together_lines, lines_together};
 ghost use Rattle.script_core.specs.Losses.{AreReleased, lost_of, closed_by as spec_closed_by};
 ghost use Rattle.script_core.specs.Explaining as spec;
 
@@ -24,14 +24,17 @@ use crate::report_text::{push_held, push_held_text, push_wait, push_wait_text};
 use crate::states::{States, push_state_behind};
 use fd_table::Limits;
 use lock_book::{Held, Owner};
-use lock_manager::{Errno, InTheWay, Manager, Note, Reply, Request, Rules, step_has_one_outcome};
+use lock_manager::{
+    Errno, InTheWay, Manager, Note, Reply, Request, Rules, Visit, step_has_one_outcome,
+};
 use range_core::Memory;
 use session_core::Entry;
 use std::alloc::Global;
 use wait_core::{Policy, Wait};
 
 /// Appends the lines of a journal, which is a run of `processes` processes from the opening, and behind each what explains it: which
-/// wait a kill ended, which locks went, what was the first in the way, and which cycle a wait would have closed; and where it is asked for
+/// wait a kill ended, which locks went, what was the first in the way, which cycle a wait would have closed, and with whom a process is in
+/// the section that it entered; and where it is asked for
 /// the whole state that it left, or what it changed. The run is made again, step by step, which takes the memory of a lock manager, of the
 /// locks that go with an entry, and of the lines of a state that is told, or of two whose difference is; for the end of a process and for a
 /// cycle that of a report, and for a cycle also that of the waits and of a set of processes for each step.
@@ -116,7 +119,8 @@ fn push_step(
     let obstacle = obstacle_of(manager, entry)?;
     push_obstacle(text, entry, obstacle)?;
     let links = deadlock_of(alloc, rules.policy, manager, entry)?;
-    push_deadlock(text, entry, &links)
+    push_deadlock(text, entry, &links)?;
+    push_together(text, manager, entry)
 }
 
 /// Appends a line for each lock that the entry's request releases.
@@ -330,6 +334,68 @@ fn push_step_text(text: &mut Vec<u8>, step: &InTheWay) -> Result<(), Memory>
         InTheWay::Lock(held) => push_held_text(text, held),
         InTheWay::Wait(wait) => push_wait_text(text, wait),
     }
+}
+
+/// Appends a line for each process with which the entry's is in the section that it entered, and isn't meant to be.
+fn push_together(text: &mut Vec<u8>, manager: &Manager, entry: &Entry) -> Result<(), Memory>
+    ensures ok { OnOk result ((T : State) → StandsFor manager.now T
+        → text.new.items ≡ text.old.items ++ lines_together (processes_of manager.now) entry.now T) }
+    ensures kept { Extends text.old.items text.new.items }
+{
+    match entry.request {
+        Request::Enter { section, visit } if is_done(entry.notes.as_slice()) => {
+            push_all_together(text, manager, entry, section, visit)
+        }
+        _ => Ok(()),
+    }
+}
+
+/// Appends a line for each process with which the entry's is in the section by this visit, and isn't meant to be.
+fn push_all_together(
+    text: &mut Vec<u8>,
+    manager: &Manager,
+    entry: &Entry,
+    section: u8,
+    visit: Visit,
+) -> Result<(), Memory>
+    ensures ok { OnOk result ((T : State) → StandsFor manager.now T
+        → text.new.items ≡ text.old.items ++ together_lines entry.now T.visits section visit (processes_of manager.now)) }
+    ensures kept { Extends text.old.items text.new.items }
+{
+    for index in 0..manager.processes() {
+        let q = index + 1;
+        if manager.is_together(entry.p, section, visit, q) {
+            push_together_with(text, entry, section, q)?;
+        }
+    }
+    Ok(())
+}
+
+/// Appends the line of another process that is in the section.
+fn push_together_with(text: &mut Vec<u8>, entry: &Entry, section: u8, q: u8) -> Result<(), Memory>
+    ensures { MatchResult result (λ unit. text.new.items ≡ text.old.items ++ together_line entry.now section q) (λ error. Extends text.old.items text.new.items) }
+{
+    push_comment(text, entry, "together with ")?;
+    push_first_number(text, u64::from(q))?;
+    push_str(text, " in ")?;
+    push_first_number(text, u64::from(section))?;
+    push_str(text, "\n")
+}
+
+/// Whether the first of these notes, the caller's, says Ok.
+fn is_done(notes: &[Note]) -> bool
+    ensures { result ≡ spec.is_done notes.now }
+{
+    matches!(
+        notes,
+        [
+            Note::Answer {
+                reply: Reply::Ok,
+                ..
+            },
+            ..
+        ]
+    )
 }
 
 /// Appends the line of what is in the way, if anything is.

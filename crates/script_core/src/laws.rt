@@ -7,6 +7,7 @@ ghost use Rattle.script_core.specs.Output.{OutputsAreShort, ScriptsHaveOneOutput
 ghost use Rattle.script_core.specs.OutputReading.{OutputsAreLegal};
 ghost use Rattle.script_core.specs.ReportReading.{ReportsAreReadBack};
 ghost use Rattle.script_core.specs.WithoutHeaders.{HeadersChangeNothingElse};
+ghost use Rattle.script_core.specs.WithoutSections.{SectionsNameNothingElse};
 
 use lock_book::locks_have_one_report;
 use lock_manager::step_has_one_outcome;
@@ -24,6 +25,12 @@ pub fn scripts_have_one_output()
 /// that this language refuses keeps its fault, where the first word of the faulty line isn't that of a header line.
 pub fn headers_change_nothing_else()
     ensures { HeadersChangeNothingElse }
+{}
+
+/// Sections name nothing else: a word but `enter`, `leave` and `bail` names the same command as in the language without these three, or none in
+/// either. So each other line reads and faults alike, of scripts and of journals.
+pub fn sections_name_nothing_else()
+    ensures { SectionsNameNothingElse }
 {}
 
 /// The lines of a report are read as they are written, with whatever counts of what was sent that are no less than what was taken, and no

@@ -37,6 +37,7 @@ pub use laws::{
     explanations_are_comments, explanations_have_one_text, headers_change_nothing_else,
     journals_are_read_back, journals_have_one_end, lines_have_one_answer, losses_are_differences,
     outputs_are_legal, outputs_are_short, reports_are_read_back, scripts_have_one_output,
+    sections_name_nothing_else,
 };
 pub use numbers::natural_of;
 pub use reader::ScriptReader;

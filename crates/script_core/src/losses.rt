@@ -1,5 +1,5 @@
 //! The locks that go with an event: those that a close or an end releases, and the flock lock that a conversion loses.
-ghost use Rattle.std.specs.Prelude.{◌≡◌, [], IfOk, IsFalse, map};
+ghost use Rattle.std.specs.Prelude.{◌≡◌, [], if◌then◌else◌, IfOk, IsFalse, map};
 ghost use Rattle.fd_table.specs.Descriptors.{descriptor_limit};
 ghost use Rattle.lock_manager.specs.State.{State};
 ghost use Rattle.lock_manager.specs.ManagerView.{StandsFor, processes_of};
@@ -38,6 +38,7 @@ pub fn closed_by(manager: &Manager, limits: Limits, p: u8, request: Request) -> 
         }
         Request::Exit => Closing::AllOf { p },
         Request::Kill { target } => killed(target, manager.state_of(target)),
+        Request::Bail => bailed(p, manager.was_refused(p)),
         _ => Closing::Nothing,
     }
 }
@@ -49,6 +50,17 @@ fn killed(target: u8, state: ProcState) -> Closing
     match state {
         ProcState::Live | ProcState::Waiting => Closing::AllOf { p: target },
         ProcState::Unborn | ProcState::Ended => Closing::Nothing,
+    }
+}
+
+/// Which descriptors a bail closes: all, where the last answer to its process was an error.
+fn bailed(p: u8, was_refused: bool) -> Closing
+    ensures { result ≡ (if was_refused then Closing.AllOf p else Closing.Nothing) }
+{
+    if was_refused {
+        Closing::AllOf { p }
+    } else {
+        Closing::Nothing
     }
 }
 

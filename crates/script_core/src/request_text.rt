@@ -2,12 +2,12 @@
 ghost use Rattle.std.specs.Prelude.{◌≡◌, ◌∷◌, ◌++◌, MatchResult, flat_map};
 ghost use Rattle.std.specs.List.{join_with_byte};
 ghost use Rattle.lock_manager.specs.declared.request.Request.TheVariants.{Flock};
-ghost use Rattle.script_core.specs.RequestText.{request_text, lock_words, pid_words, nb_words};
+ghost use Rattle.script_core.specs.RequestText.{request_text, lock_words, pid_words, nb_words, visit_words};
 ghost use Rattle.script_core.specs.Output.{Extends};
 
 use crate::pieces::{push_integer, push_number, push_numbered, push_str};
 use crate::word_tables::{spaced_access, spaced_command, spaced_kind, spaced_op, spaced_whence};
-use lock_manager::{FlockOp, Lock, Request};
+use lock_manager::{FlockOp, Lock, Request, Visit};
 use range_core::Memory;
 
 /// Appends a space, and a request: its command and its arguments, with one space between words.
@@ -42,6 +42,12 @@ pub fn push_request(text: &mut Vec<u8>, request: &Request) -> Result<(), Memory>
         Request::Exit => push_str(text, " exit"),
         Request::Signal { target } => push_numbered(text, " signal", u64::from(*target)),
         Request::Kill { target } => push_numbered(text, " kill", u64::from(*target)),
+        Request::Enter { section, visit } => {
+            push_numbered(text, " enter", u64::from(*section))?;
+            push_visit(text, *visit)
+        }
+        Request::Leave { section } => push_numbered(text, " leave", u64::from(*section)),
+        Request::Bail => push_str(text, " bail"),
     }
 }
 
@@ -77,6 +83,17 @@ fn push_flock_request(text: &mut Vec<u8>, fd: u32, op: FlockOp, nb: bool) -> Res
     push_numbered(text, " flock", u64::from(fd))?;
     push_str(text, spaced_op(op))?;
     push_nb(text, nb)
+}
+
+/// `sh` is written only where the visit is shared.
+pub fn push_visit(text: &mut Vec<u8>, visit: Visit) -> Result<(), Memory>
+    ensures { MatchResult result (λ unit. text.new.items ≡ text.old.items
+        ++ flat_map (λ word. 32 ∷ word) (visit_words visit)) (λ error. Extends text.old.items text.new.items) }
+{
+    match visit {
+        Visit::Sole => Ok(()),
+        Visit::Shared => push_str(text, " sh"),
+    }
 }
 
 /// `nb` is written only where it is set.

@@ -2,15 +2,16 @@
 ghost use Rattle.std.specs.Prelude.{◌≡◌, ◌++◌, map, IfOk, OnOk};
 ghost use Rattle.fd_table.specs.declared.TheConstants.{FILES as file_count};
 ghost use Rattle.fd_table.specs.Descriptors.{descriptor_limit};
+ghost use Rattle.lock_manager.specs.declared.request.TheConstants.{SECTIONS as section_count};
 ghost use Rattle.lock_manager.specs.State.{State};
 ghost use Rattle.lock_manager.specs.ManagerView.{StandsFor, processes_of, state_at};
-ghost use Rattle.script_core.specs.StateText.{AreStateLines, standing_line, standing_lines, descriptor_line, descriptor_lines, all_descriptor_lines, size_line, size_lines};
+ghost use Rattle.script_core.specs.StateText.{AreStateLines, standing_line, standing_lines, descriptor_line, descriptor_lines, all_descriptor_lines, visit_line, visit_lines, section_lines, size_line, size_lines};
 ghost use Rattle.script_core.specs.StateText as spec;
 ghost use Rattle.script_core.specs.declared.state_lines.StateLine.TheVariants as state_lines;
 
 use fd_table::{Access, FILES, Limits, Look};
 use lock_book::Held;
-use lock_manager::{Manager, ProcState};
+use lock_manager::{Manager, ProcState, SECTIONS, Visit};
 use range_core::Memory;
 use std::alloc::Global;
 use wait_core::Wait;
@@ -39,6 +40,8 @@ pub enum StateLine {
     Process(u8, ProcState),
     /// Of a descriptor of a process, which is open and refers to this.
     Descriptor(u8, u32, Opened),
+    /// Of a section, and a process that is in it by this visit.
+    Section(u8, u8, Visit),
     /// Of a file that isn't empty, with its size in bytes.
     File(u8, u64),
 }
@@ -56,6 +59,7 @@ pub fn whole_state(
     add_waits(&mut told, &manager.waits()?)?;
     add_processes(&mut told, manager)?;
     add_all_descriptors(&mut told, manager, limits)?;
+    add_sections(&mut told, manager)?;
     add_files(&mut told, manager)?;
     Ok(told)
 }
@@ -157,6 +161,44 @@ fn opened_of(look: Look) -> Opened
         file: look.file,
         access: look.access,
         offset: look.offset,
+    }
+}
+
+/// Adds a line for each process that is in a section, by section.
+fn add_sections(told: &mut Vec<StateLine>, manager: &Manager) -> Result<(), Memory>
+    ensures { OnOk result ((S : State) → StandsFor manager.now S
+        → told.new.items ≡ told.old.items ++ section_lines S.visits (processes_of manager.now) section_count) }
+{
+    for section in 0..SECTIONS {
+        add_visits(told, manager, section)?;
+    }
+    Ok(())
+}
+
+/// Adds a line for each process that is in the section.
+fn add_visits(told: &mut Vec<StateLine>, manager: &Manager, section: u8) -> Result<(), Memory>
+    ensures { OnOk result ((S : State) → StandsFor manager.now S
+        → told.new.items ≡ told.old.items ++ visit_lines S.visits section (processes_of manager.now)) }
+{
+    for index in 0..manager.processes() {
+        let p = index + 1;
+        add_visit(told, section, p, manager.visit(p, section))?;
+    }
+    Ok(())
+}
+
+/// Adds the line of a process, where it is in the section.
+fn add_visit(
+    told: &mut Vec<StateLine>,
+    section: u8,
+    p: u8,
+    visit: Option<Visit>,
+) -> Result<(), Memory>
+    ensures { OnOk result (told.new.items ≡ told.old.items ++ visit_line section p visit) }
+{
+    match visit {
+        Some(visit) => Ok(told.push(StateLine::Section(section, p, visit))?),
+        None => Ok(()),
     }
 }
 

@@ -4,16 +4,17 @@ ghost use Rattle.fd_table.specs.Descriptors.{descriptor_limit};
 ghost use Rattle.lock_manager.specs.State.{State};
 ghost use Rattle.lock_manager.specs.ManagerView.{StandsFor, processes_of};
 ghost use Rattle.script_core.specs.Output.{Extends};
-ghost use Rattle.script_core.specs.StateText.{AreMissing, AreStateLines, AsksForStates, AsksForNoState, IsAmong, IsChangesText, IsKept, IsStateText, TellsState, marked_line, state_line_text, standing_text, access_text, opened_text, descriptor_text, size_text};
+ghost use Rattle.script_core.specs.StateText.{AreMissing, AreStateLines, AsksForStates, AsksForNoState, IsAmong, IsChangesText, IsKept, IsStateText, TellsState, marked_line, state_line_text, standing_text, access_text, opened_text, descriptor_text, visit_text, size_text};
 ghost use Rattle.script_core.specs.declared.state_lines.StateLine.{StateLine};
 
 use crate::numbers::natural_of;
 use crate::pieces::{push_number, push_numbered, push_str};
 use crate::report_text::{push_held, push_wait, spaced_state};
+use crate::request_text::push_visit;
 use crate::state_lines::{Opened, StateLine, whole_state};
 use crate::word_tables::spaced_access;
 use fd_table::Limits;
-use lock_manager::{Manager, ProcState, Rules};
+use lock_manager::{Manager, ProcState, Rules, Visit};
 use range_core::Memory;
 
 /// Behind which entries of a run the state is told (this project's choice).
@@ -197,6 +198,7 @@ fn push_state_line(text: &mut Vec<u8>, line: &StateLine) -> Result<(), Memory>
         StateLine::Waits(wait) => push_wait(text, wait),
         StateLine::Process(p, state) => push_where(text, *p, *state),
         StateLine::Descriptor(p, fd, opened) => push_descriptor(text, *p, *fd, *opened),
+        StateLine::Section(section, p, visit) => push_section(text, *section, *p, *visit),
         StateLine::File(file, size) => push_file(text, *file, *size),
     }
 }
@@ -235,6 +237,16 @@ fn push_access(text: &mut Vec<u8>, opened: Opened) -> Result<(), Memory>
 {
     push_str(text, spaced_access(opened.access))?;
     push_numbered(text, " offset", opened.offset)
+}
+
+/// Appends a section, and a process that is in it by this visit.
+fn push_section(text: &mut Vec<u8>, section: u8, p: u8, visit: Visit) -> Result<(), Memory>
+    ensures { MatchResult result (λ unit. text.new.items ≡ text.old.items ++ visit_text section p visit) (λ error. Extends text.old.items text.new.items) }
+{
+    push_numbered(text, "section", u64::from(section))?;
+    push_numbered(text, " process", u64::from(p))?;
+    push_visit(text, visit)?;
+    push_str(text, "\n")
 }
 
 /// Appends a file with its size.

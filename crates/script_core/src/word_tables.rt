@@ -49,6 +49,9 @@ pub fn command_name(word: &str) -> Option<CommandName>
         "signal" => Some(CommandName::Signal),
         "kill" => Some(CommandName::Kill),
         "exit" => Some(CommandName::Exit),
+        "enter" => Some(CommandName::Enter),
+        "leave" => Some(CommandName::Leave),
+        "bail" => Some(CommandName::Bail),
         _ => None,
     }
 }

@@ -10,7 +10,7 @@ use Rattle.lock_manager.specs.declared.request.ProcState.TheVariants.{Unborn, Li
 use Rattle.lock_manager.specs.declared.manager.Manager.{Manager}
 use Rattle.lock_manager.specs.ManagerView.{IsSafeManager, rules_of, processes_of, state_at}
 use Rattle.lock_manager.specs.declared.request.Request.{Request}
-use Rattle.lock_manager.specs.declared.request.Request.TheVariants.{Exit, Kill}
+use Rattle.lock_manager.specs.declared.request.Request.TheVariants.{Exit, Kill, Bail}
 use Rattle.session_core.specs.Event.{Event}
 use Rattle.session_core.specs.Runs.{events_of}
 use Rattle.session_core.specs.Mail.{IsPrefixOf, requests_taken, answers_to, reply_to}
@@ -35,13 +35,14 @@ IsEnded Live = ⊥
 IsEnded Waiting = ⊥
 IsEnded Ended = Unit {0}
 
--- the event ends the process: it is its exit, its kill of itself, or a kill of it by another that was answered Ok
--- (POSIX.1-2017 _Exit; kill, DESCRIPTION, SIGKILL)
+-- the event ends the process: it is its exit, its kill of itself, a kill of it by another that was answered Ok, or its bail that wasn't
+-- (POSIX.1-2017 _Exit; kill, DESCRIPTION, SIGKILL; the bail is this project's choice)
 abbrev pub EndsProcess : Event → ℕ → Type 0
 EndsProcess event p =
     ((event.p ≡ p) × (event.request ≡ Exit))
     ⊎ ((event.p ≡ p) × (event.request ≡ Kill p))
     ⊎ ((event.p ≢ p) × (event.request ≡ Kill p) × Contains event.notes (Answer event.p event.n replies.Ok))
+    ⊎ ((event.p ≡ p) × (event.request ≡ Bail) × ¬ Contains event.notes (Answer event.p event.n replies.Ok))
 
 -- the event is not of the process, and tells it nothing
 abbrev pub LeavesAlone : ℕ → Event → Type 0

@@ -10,7 +10,7 @@ use Rattle.wait_core.specs.declared.Wait.{Wait}
 use Rattle.wait_core.specs.Blocking.{WaitsConflict}
 use Rattle.lock_manager.specs.declared.request.Rules.{Rules}
 use Rattle.lock_manager.specs.declared.request.Request.{Request}
-use Rattle.lock_manager.specs.declared.request.Request.TheVariants.{OpenFile, Dup, DupTo, CloseFd, Seek, Resize, Lk, Flock, Fork, Exit, Signal, Kill}
+use Rattle.lock_manager.specs.declared.request.Request.TheVariants.{OpenFile, Dup, DupTo, CloseFd, Seek, Resize, Lk, Flock, Fork, Exit, Signal, Kill, Enter, Leave, Bail}
 use Rattle.lock_manager.specs.declared.request.Note.{Note}
 use Rattle.lock_manager.specs.declared.request.Note.TheVariants.{Answer, Waits}
 use Rattle.lock_manager.specs.declared.request.Reply.{Reply}
@@ -38,6 +38,9 @@ WouldWaitAs S p n (Fork child) wait = ⊥
 WouldWaitAs S p n Exit wait = ⊥
 WouldWaitAs S p n (Signal target) wait = ⊥
 WouldWaitAs S p n (Kill target) wait = ⊥
+WouldWaitAs S p n (Enter section visit) wait = ⊥
+WouldWaitAs S p n (Leave section) wait = ⊥
+WouldWaitAs S p n Bail wait = ⊥
 
 -- the event, which comes after these, tells that its request waits, and what it waits for is this
 pub record WaitsAs (rules : Rules) (processes : ℕ) (before : List Event) (event : Event) (wait : Wait) : Type 0 where

@@ -49,6 +49,23 @@ const CLOSED: &[u8] = b"1 open 0 rw
 1 close 1
 ";
 
+/// Process 2 enters, by a shared visit, where process 1 is by a sole one.
+const TOGETHER: &[u8] = b"1 fork 2
+1 enter 3
+2 enter 3 sh
+";
+
+/// Two shared visits; another section; one that the other process has left; and an enter where process 1 is already, which is refused.
+const APART: &[u8] = b"1 fork 2
+1 enter 3 sh
+2 enter 3 sh
+1 enter 4
+2 enter 5
+2 leave 5
+1 enter 5
+1 enter 3
+";
+
 /// What comes of the run of the script where what this list names is to fail; `None` where it names nothing.
 fn outcome_of(alloc: Global, script: &[u8], list: &str) -> Result<Option<RunOutcome>, Fail> {
     let Some(fail_on) = findings_of::<RunFinding>(alloc, list)? else {
@@ -138,6 +155,27 @@ fn a_bad_descriptor(rt: HostRuntime) -> Result<(), Fail> {
         )?,
         Some(RunOutcome::Passed)
     );
+    Ok(())
+}
+
+#[test]
+fn sections(rt: HostRuntime) -> Result<(), Fail> {
+    let alloc = rt.alloc();
+    assert_eq!(rt;
+        outcome_of(alloc, TOGETHER, "together")?,
+        Some(RunOutcome::Failed)
+    );
+    let others = "deadlock,stuck,dropped,lost,busy,interrupted,killed,unborn,badfd";
+    assert_eq!(rt;
+        outcome_of(alloc, TOGETHER, others)?,
+        Some(RunOutcome::Passed)
+    );
+    for findings in [others, "together"] {
+        assert_eq!(rt;
+            outcome_of(alloc, APART, findings)?,
+            Some(RunOutcome::Passed)
+        );
+    }
     Ok(())
 }
 

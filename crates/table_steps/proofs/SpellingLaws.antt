@@ -12,13 +12,15 @@ use Rattle.range_core.specs.declared.Whence.{Whence}
 use Rattle.fd_table.specs.declared.Access.{Access}
 use Rattle.lock_manager.specs.declared.request.Lock.{Lock}
 use Rattle.lock_manager.specs.declared.request.LkCmd.{LkCmd}
+use Rattle.lock_manager.specs.declared.request.LkCmd.TheVariants as commands
 use Rattle.lock_manager.specs.declared.request.FlockOp.{FlockOp}
 use Rattle.lock_manager.specs.declared.request.Request.{Request}
 use Rattle.lock_manager.specs.declared.request.Request.TheVariants.{Lk, Exit}
+use Rattle.lock_manager.specs.declared.request.Visit.{Visit}
 use Rattle.lock_manager.specs.declared.request.Errno.{Errno}
 use Rattle.lock_manager.specs.declared.request.Reply.{Reply}
 use Rattle.lock_manager.specs.declared.request.Reply.TheVariants as replies
-use Rattle.table_steps.specs.Spelling.{word_of, number_in, access_code, access_in, mode_code, mode_in, kind_code, kind_in, whence_code, whence_in, op_code, op_in, flag_code, flag_in, command_code, command_in, request_spelled, request_of_words, lock_in, RequestFits, error_code, error_in, answer_spelled, reply_of_words, ReplyFits}
+use Rattle.table_steps.specs.Spelling.{word_of, number_in, access_code, access_in, mode_code, mode_in, kind_code, kind_in, whence_code, whence_in, op_code, op_in, visit_code, visit_of_code, flag_code, flag_in, command_code, command_in, request_spelled, request_of_words, lock_in, RequestFits, error_code, error_in, answer_spelled, reply_of_words, ReplyFits}
 
 -- a function of the six words
 abbrev pub of_six : {X : Type 0} → (ℕ → ℕ → ℕ → ℕ → ℕ → ℕ → X) → X → List ℕ → X
@@ -43,6 +45,9 @@ mode_back modes.Write = refl
 op_back : (o : FlockOp) (nb : Bool) → op_in ((2 * op_code o + flag_code nb) / 2) ≡ o
 op_back o nb = grind (arith, common_steps)
 
+visit_back : (v : Visit) → visit_of_code (visit_code v) ≡ v
+visit_back v = grind (arith, common_steps)
+
 flag_back : (o : FlockOp) (nb : Bool) → flag_in ((2 * op_code o + flag_code nb) % 2) ≡ nb
 flag_back o nb = grind (arith, common_steps)
 
@@ -61,10 +66,15 @@ lock_back l start len pid = grind (arith, common_steps, kind_back, whence_back, 
 
 command_back : (fd c d e f : ℕ) (command : LkCmd) → request_of_words (command_code command) fd c d e f ≡ Lk fd
     command (lock_in c d e f)
-command_back fd c d e f command = grind (arith, common_steps)
+command_back fd c d e f commands.GetLk = refl
+command_back fd c d e f commands.SetLk = refl
+command_back fd c d e f commands.SetLkW = refl
+command_back fd c d e f commands.OGetLk = refl
+command_back fd c d e f commands.OSetLk = refl
+command_back fd c d e f commands.OSetLkW = refl
 
 pub request_back : (r : Request) → RequestFits r → request_in (request_spelled r) ≡ r
-request_back r h = grind (arith, common_steps, access_back, number_back, command_back, lock_back, op_back, flag_back)
+request_back r h = grind (arith, common_steps, access_back, number_back, command_back, lock_back, op_back, flag_back, visit_back)
 
 -- the spelling determines the request
 pub one_request : (r s : Request) → RequestFits r → RequestFits s → request_spelled r ≡ request_spelled s → r ≡ s
@@ -89,7 +99,7 @@ pub lock_read : (words : List ℕ) (r : Request) (fd : ℕ) (command : LkCmd) (l
     → (get_or words 0 0 ≢ 1) × (get_or words 0 0 ≢ 2) × (get_or words 0 0 ≢ 3) × (get_or words 0 0 ≢ 4)
     × (get_or words 0 0 ≢ 5) × (get_or words 0 0 ≢ 6)
     → (get_or words 0 0 ≢ 13) × (get_or words 0 0 ≢ 14) × (get_or words 0 0 ≢ 15) × (get_or words 0 0 ≢ 16)
-    × (get_or words 0 0 ≢ 17)
+    × (get_or words 0 0 ≢ 17) × (get_or words 0 0 ≢ 18) × (get_or words 0 0 ≢ 19) × (get_or words 0 0 ≢ 20)
     → (get_or words 1 0 < 2 ^ 32 → fd ≡ get_or words 1 0) → command ≡ command_in (get_or words 0 0)
     → lock ≡ lock_in (get_or words 2 0) (get_or words 3 0) (get_or words 4 0) (get_or words 5 0) → Lk fd command lock ≡ r
 lock_read words r fd command lock h h2 h3 h4 h5 h6 h7 = search (rules, lock_back)

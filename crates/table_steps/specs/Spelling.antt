@@ -18,7 +18,9 @@ use Rattle.lock_manager.specs.declared.request.FlockOp.{FlockOp}
 use Rattle.lock_manager.specs.declared.request.FlockOp.TheVariants.{Sh, Ex, Un}
 use Rattle.lock_manager.specs.declared.request.Request.{Request}
 use Rattle.lock_manager.specs.declared.request.Request.TheVariants.{OpenFile, Dup, DupTo, CloseFd, Seek, Resize, Lk, Flock, Fork}
-use Rattle.lock_manager.specs.declared.request.Request.TheVariants.{Exit, Signal, Kill}
+use Rattle.lock_manager.specs.declared.request.Request.TheVariants.{Exit, Signal, Kill, Enter, Leave, Bail}
+use Rattle.lock_manager.specs.declared.request.Visit.{Visit}
+use Rattle.lock_manager.specs.declared.request.Visit.TheVariants.{Sole, Shared}
 use Rattle.lock_manager.specs.declared.request.Errno.{Errno}
 use Rattle.lock_manager.specs.declared.request.Errno.TheVariants.{EBADF, EINVAL, EOVERFLOW, EAGAIN, EDEADLK, EINTR, EMFILE, ESRCH}
 use Rattle.lock_manager.specs.declared.request.Reply.{Reply}
@@ -76,6 +78,14 @@ op_code Un = 2
 abbrev pub op_in : ℕ → FlockOp
 op_in code = if code == 0 then Sh else (if code == 1 then Ex else Un)
 
+-- the code of a visit, and the visit of a code
+abbrev pub visit_code : Visit → ℕ
+visit_code Sole = 0
+visit_code Shared = 1
+
+abbrev pub visit_of_code : ℕ → Visit
+visit_of_code code = if code == 0 then Sole else Shared
+
 -- the code of a flag, and the flag of a code
 abbrev pub flag_code : Bool → ℕ
 flag_code false = 0
@@ -121,6 +131,9 @@ request_spelled (Fork child) = six 14 child 0 0 0 0
 request_spelled Exit = six 15 0 0 0 0 0
 request_spelled (Signal target) = six 16 target 0 0 0 0
 request_spelled (Kill target) = six 17 target 0 0 0 0
+request_spelled (Enter section visit) = six 18 section (visit_code visit) 0 0 0
+request_spelled (Leave section) = six 19 section 0 0 0 0
+request_spelled Bail = six 20 0 0 0 0 0
 
 -- the lock description that four words of a cell spell
 abbrev pub lock_in : ℕ → ℕ → ℕ → ℕ → Lock
@@ -146,7 +159,10 @@ request_of_words a b c d e f =
     else (if a == 14 then Fork b
     else (if a == 15 then Exit
     else (if a == 16 then Signal b
-    else (if a == 17 then Kill b else Lk b (command_in a) (lock_in c d e f)))))))))))
+    else (if a == 17 then Kill b
+    else (if a == 18 then Enter b (visit_of_code c)
+    else (if a == 19 then Leave b
+    else (if a == 20 then Bail else Lk b (command_in a) (lock_in c d e f))))))))))))))
 
 -- the numbers of a request fit their types, as those of each request of the program do
 abbrev pub RequestFits : Request → Type 0
@@ -162,6 +178,9 @@ RequestFits (Fork child) = child < 2 ^ 8
 RequestFits Exit = Unit {0}
 RequestFits (Signal target) = target < 2 ^ 8
 RequestFits (Kill target) = target < 2 ^ 8
+RequestFits (Enter section visit) = section < 2 ^ 8
+RequestFits (Leave section) = section < 2 ^ 8
+RequestFits Bail = Unit {0}
 
 -- the code of an error, and the error of a code
 abbrev pub error_code : Errno → ℕ

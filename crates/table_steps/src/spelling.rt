@@ -1,11 +1,11 @@
 //! Requests and answers as words, and back.
 ghost use Rattle.std.specs.Prelude.{◌≡◌, ℕ, ◌+◌, ◌*◌, ◌≤◌, ◌<◌, ◌^◌};
 ghost use Rattle.table_steps.specs.Spelling.{request_spelled, answer_spelled, RequestFits, ReplyFits};
-ghost use Rattle.table_steps.specs.Spelling.{access_code, mode_code, kind_code, whence_code, op_code, flag_code, command_code, error_code};
-ghost use Rattle.table_steps.specs.Spelling.{access_in, mode_in, kind_in, whence_in, op_in, command_in, lock_in, error_in};
+ghost use Rattle.table_steps.specs.Spelling.{access_code, mode_code, kind_code, whence_code, op_code, visit_code, flag_code, command_code, error_code};
+ghost use Rattle.table_steps.specs.Spelling.{access_in, mode_in, kind_in, whence_in, op_in, visit_of_code, command_in, lock_in, error_in};
 
 use fd_table::Access;
-use lock_manager::{Errno, FlockOp, LkCmd, Lock, Reply, Request};
+use lock_manager::{Errno, FlockOp, LkCmd, Lock, Reply, Request, Visit};
 use range_core::{Kind, Mode, Whence};
 
 fn access_number(access: Access) -> u64
@@ -45,6 +45,15 @@ fn op_number(op: FlockOp) -> u64
         FlockOp::Sh => 0,
         FlockOp::Ex => 1,
         FlockOp::Un => 2,
+    }
+}
+
+fn visit_number(visit: Visit) -> u64
+    ensures { result ≡ visit_code visit }
+{
+    match visit {
+        Visit::Sole => 0,
+        Visit::Shared => 1,
     }
 }
 
@@ -99,6 +108,9 @@ pub fn spell_request(request: Request) -> [u64; 6]
         Request::Exit => [15, 0, 0, 0, 0, 0],
         Request::Signal { target } => [16, target as u64, 0, 0, 0, 0],
         Request::Kill { target } => [17, target as u64, 0, 0, 0, 0],
+        Request::Enter { section, visit } => [18, section as u64, visit_number(visit), 0, 0, 0],
+        Request::Leave { section } => [19, section as u64, 0, 0, 0, 0],
+        Request::Bail => [20, 0, 0, 0, 0, 0],
     }
 }
 
@@ -139,6 +151,16 @@ fn op_in_word(word: u64) -> FlockOp
         0 => FlockOp::Sh,
         1 => FlockOp::Ex,
         _ => FlockOp::Un,
+    }
+}
+
+fn visit_in_word(word: u64) -> Visit
+    ensures { result ≡ visit_of_code word }
+{
+    if word == 0 {
+        Visit::Sole
+    } else {
+        Visit::Shared
     }
 }
 
@@ -233,6 +255,12 @@ pub fn read_request(words: [u64; 6]) -> Request
         15 => Request::Exit,
         16 => Request::Signal { target: octet(b) },
         17 => Request::Kill { target: octet(b) },
+        18 => Request::Enter {
+            section: octet(b),
+            visit: visit_in_word(c),
+        },
+        19 => Request::Leave { section: octet(b) },
+        20 => Request::Bail,
         _ => Request::Lk {
             fd: half(b),
             cmd: command_in_word(a),

@@ -3,19 +3,20 @@ use Rattle.std.proofs.Common.{ℕ, ◌≡◌, ◌≤◌, ◌+◌, arith, length,
 use Rattle.std.proofs.lemmas.Grind.{common_steps}
 use Rattle.range_core.specs.declared.Memory.{Memory}
 use Rattle.lock_manager.specs.declared.machine.Machine.{Machine}
+use Rattle.lock_manager.specs.declared.sections.Sections.{Sections}
 use Rattle.lock_manager.specs.declared.request.Note.{Note}
 use Rattle.lock_manager.specs.declared.request.Reply.{Reply}
 use Rattle.lock_manager.specs.declared.request.Request.{Request}
-use Rattle.lock_manager.specs.MachineView.{SameMachine, Answers, Tells, machine_waits}
+use Rattle.lock_manager.specs.MachineView.{SameMachine, Answers, TellsBy, machine_waits}
 use Rattle.lock_manager.specs.Replies.{IsReplied}
 
 -- a reply is told by its note
-pub told_by : (old new : Machine) (p n : ℕ) (request asked : Request) (reply : Result Reply Memory) (result : Result (Unit {0}) Memory)
+pub told_by : (sections : Sections) (old new : Machine) (p n : ℕ) (request asked : Request) (reply : Result Reply Memory) (result : Result (Unit {0}) Memory)
     (before after : List Note)
     → IsReplied p n reply result before after → before ≡ [] → request ≡ asked → IfOk reply (Answers old new p asked)
-    → OnOk result (Tells old new p n request after)
-told_by old new p n request asked (Ok reply) result before after is none same answers = rw (is.0, is.1, none, same) (answers n)
-told_by old new p n request asked (Err memory) result before after is none same answers = rw is tt
+    → OnOk result (TellsBy sections old new p n request after)
+told_by sections old new p n request asked (Ok reply) result before after is none same answers = rw (is.0, is.1, none, same) (λ S h are. answers n S h)
+told_by sections old new p n request asked (Err memory) result before after is none same answers = rw is tt
 
 -- and leaves room for a note to each wait
 pub few_by : (old new : Machine) (p n capacity : ℕ) (reply : Result Reply Memory) (result : Result (Unit {0}) Memory) (before after : List Note)

@@ -20,7 +20,7 @@ use Rattle.lock_manager.specs.declared.request.LkCmd.TheVariants.{GetLk, SetLk, 
 use Rattle.lock_manager.specs.declared.request.FlockOp.{FlockOp}
 use Rattle.lock_manager.specs.declared.request.Errno.TheVariants.{EBADF, EMFILE, EINVAL, EAGAIN}
 use Rattle.lock_manager.specs.declared.request.Request.{Request}
-use Rattle.lock_manager.specs.declared.request.Request.TheVariants.{OpenFile, Dup, DupTo, CloseFd, Seek, Resize, Lk, Flock, Fork, Exit, Signal, Kill}
+use Rattle.lock_manager.specs.declared.request.Request.TheVariants.{OpenFile, Dup, DupTo, CloseFd, Seek, Resize, Lk, Flock, Fork, Exit, Signal, Kill, Enter, Leave, Bail}
 use Rattle.lock_manager.specs.declared.request.Note.{Note}
 use Rattle.lock_manager.specs.declared.request.Note.TheVariants.{Answer}
 use Rattle.lock_manager.specs.declared.request.Reply.TheVariants as replies
@@ -33,6 +33,7 @@ use Rattle.lock_manager.specs.DescriptorCalls.{with_released}
 use Rattle.lock_manager.specs.LockCommands.{GetComesTo, SetComesTo, SetOrWaitComesTo, WaitOrDeadlockComesTo, CommandComesTo, LockComesTo}
 use Rattle.lock_manager.specs.FlockCalls.{FlockTestComesTo, FlockModeComesTo, FlockComesTo, RemovesOldLock, is_same_mode}
 use Rattle.lock_manager.specs.ProcessCalls.{EndComesTo, SignalComesTo, KillOtherComesTo, KillComesTo}
+use Rattle.lock_manager.specs.Sections.{may_enter, may_leave, marked}
 use Rattle.lock_manager.specs.Step.{ComesTo, Step}
 use Rattle.lock_manager.specs.SomeOutcome.{IsWhole}
 use Rattle.lock_manager.proofs.some.AtLeastOneLemmas.{AtLeastOne, SomePair, this_value, by_cases, MatchFact-some, some_by_one, some_by_two}
@@ -196,6 +197,12 @@ ComesTo-some rules processes S p n (Fork child) whole =
 ComesTo-some rules processes S p n Exit whole = EndComesTo-some S p [] whole
 ComesTo-some rules processes S p n (Signal target) whole = SignalComesTo-some S p n target (S.states target) whole refl
 ComesTo-some rules processes S p n (Kill target) whole = KillComesTo-some S p n target whole
+ComesTo-some rules processes S p n (Enter section visit) whole =
+    MatchBool-by (λ P. AtLeastOne P) (may_enter S.visits p section) _ _ (this_value _ _ refl) (this_value _ _ refl)
+ComesTo-some rules processes S p n (Leave section) whole =
+    MatchBool-by (λ P. AtLeastOne P) (may_leave S.visits p section) _ _ (this_value _ _ refl) (this_value _ _ refl)
+ComesTo-some rules processes S p n Bail whole =
+    MatchBool-by (λ P. AtLeastOne P) (S.refused p) _ _ (EndComesTo-some S p [] whole) (this_value _ _ refl)
 
 -- there is a step
 pub Step-some : (rules : Rules) (processes : ℕ) (S : State) (p n : ℕ) (request : Request) → IsWhole S → S.states p ≡ Live
@@ -203,7 +210,7 @@ pub Step-some : (rules : Rules) (processes : ℕ) (S : State) (p n : ℕ) (reque
 Step-some rules processes S p n request whole live none =
     ComesTo-some rules processes S p n request whole
     (λ outcome comes.
-    settled_some rules.policy outcome.after
+    settled_some rules.policy (marked S p request outcome)
     (λ grants T settles.
     none (outcome.told ++ grants) T
     (record { live = live; outcome = outcome; comes_to = comes; grants = grants; settles = settles; are_notes = refl })))

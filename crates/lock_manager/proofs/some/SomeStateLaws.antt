@@ -11,7 +11,7 @@ use Rattle.lock_book.specs.SomeChanges.{BooksStandForSome}
 use Rattle.fd_table.specs.TablesView.{TablesStandForSome}
 use Rattle.wait_core.specs.Locks.{byte_modes_at, flock_modes_at}
 use Rattle.lock_manager.specs.MachineView.{machine_state, machine_locks, machine_waits}
-use Rattle.lock_manager.specs.ManagerView.{state_at, locks_in_books, waits_of}
+use Rattle.lock_manager.specs.ManagerView.{state_at, locks_in_books, waits_of, visit_at, refused_at}
 use Rattle.lock_manager.specs.SomeState.{ManagersStandForSome}
 use Rattle.lock_manager.proofs.kept.BookLemmas.{mode_from-append, flock_mode_from-append}
 
@@ -75,7 +75,7 @@ flocks_left_at law file (book ∷ books) (suc place) at description is =
 
 -- any manager stands for some state
 pub stand_for_some : TablesStandForSome → BooksStandForSome → ManagersStandForSome
-unfolding state_at locks_in_books waits_of machine_state machine_locks machine_waits
+unfolding state_at locks_in_books waits_of visit_at refused_at machine_state machine_locks machine_waits
 stand_for_some tables law manager =
     let books = manager.machine.books.items in (
       record {
@@ -84,6 +84,8 @@ stand_for_some tables law manager =
         descriptors = (tables manager.machine.tables).0;
         waits = waits_of manager;
         states = state_at manager;
+        visits = visit_at manager;
+        refused = refused_at manager;
       },
       record {
         bytes = λ file owner byte. left_at law 0 books file file owner byte (omega arith);
@@ -91,5 +93,7 @@ stand_for_some tables law manager =
         descriptors = (tables manager.machine.tables).1;
         waits = refl;
         states = λ p. refl;
+        visits = λ p section. refl;
+        refused = λ p. refl;
       },
     )

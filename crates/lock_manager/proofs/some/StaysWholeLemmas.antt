@@ -19,7 +19,7 @@ use Rattle.lock_manager.specs.declared.request.LkCmd.{LkCmd}
 use Rattle.lock_manager.specs.declared.request.LkCmd.TheVariants.{GetLk, SetLk, SetLkW, OGetLk, OSetLk, OSetLkW}
 use Rattle.lock_manager.specs.declared.request.FlockOp.{FlockOp}
 use Rattle.lock_manager.specs.declared.request.Request.{Request}
-use Rattle.lock_manager.specs.declared.request.Request.TheVariants.{OpenFile, Dup, DupTo, CloseFd, Seek, Resize, Lk, Flock, Fork, Exit, Signal, Kill}
+use Rattle.lock_manager.specs.declared.request.Request.TheVariants.{OpenFile, Dup, DupTo, CloseFd, Seek, Resize, Lk, Flock, Fork, Exit, Signal, Kill, Enter, Leave, Bail}
 use Rattle.lock_manager.specs.declared.request.Note.{Note}
 use Rattle.lock_manager.specs.declared.request.ProcState.{ProcState}
 use Rattle.lock_manager.specs.declared.request.ProcState.TheVariants.{Unborn, Live, Waiting, Ended}
@@ -30,6 +30,7 @@ use Rattle.lock_manager.specs.LockWords.{is_get, is_bad_argument, wanted_mode, p
 use Rattle.lock_manager.specs.LockCommands.{CommandComesTo, LockComesTo}
 use Rattle.lock_manager.specs.FlockCalls.{FlockTestComesTo, FlockOpComesTo}
 use Rattle.lock_manager.specs.ProcessCalls.{EndComesTo, KillOtherComesTo}
+use Rattle.lock_manager.specs.Sections.{may_enter, may_leave, marked}
 use Rattle.lock_manager.specs.Step.{ComesTo, Step}
 use Rattle.lock_manager.specs.SomeOutcome.{AreMade, AreAwaitedIn, IsWhole}
 use Rattle.lock_manager.proofs.calls.ProcessCallLemmas.{other_found}
@@ -196,8 +197,16 @@ request_stays rules processes S p n (Signal target) outcome is h = grind (arith,
 request_stays rules processes S p n (Kill target) outcome is h =
     bool_stays (target == p) _ _ outcome is (λ own. end_stays S p [] outcome own h)
     (λ other. kill_other_stays S p n target (S.states target) outcome other h)
+request_stays rules processes S p n (Enter section visit) outcome is h =
+    bool_stays (may_enter S.visits p section) _ _ outcome is (λ done. stays_as _ outcome done h) (λ refused. stays_as _ outcome refused h)
+request_stays rules processes S p n (Leave section) outcome is h =
+    bool_stays (may_leave S.visits p section) _ _ outcome is (λ done. stays_as _ outcome done h) (λ refused. stays_as _ outcome refused h)
+request_stays rules processes S p n Bail outcome is h =
+    bool_stays (S.refused p) _ _ outcome is (λ ends. end_stays S p [] outcome ends h) (λ done. stays_as _ outcome done h)
 
 -- a step keeps it
 pub step_whole : (rules : Rules) (processes : ℕ) (S : State) (p n : ℕ) (request : Request) (notes : List Note) (T : State) → IsWhole S
     → Step rules processes S p n request notes T → IsWhole T
-step_whole rules processes S p n request notes T h step = grind (arith, common_steps, settled_whole, request_stays)
+step_whole rules processes S p n request notes T h step =
+    let after = request_stays rules processes S p n request step.outcome step.comes_to h in
+    settled_whole rules.policy (marked S p request step.outcome) step.grants T step.settles (record { made = after.made; awaited = after.awaited })

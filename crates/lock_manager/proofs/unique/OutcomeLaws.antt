@@ -15,7 +15,7 @@ use Rattle.lock_manager.specs.declared.request.Lock.{Lock}
 use Rattle.lock_manager.specs.declared.request.LkCmd.{LkCmd}
 use Rattle.lock_manager.specs.declared.request.LkCmd.TheVariants.{GetLk, SetLk, SetLkW, OGetLk, OSetLk, OSetLkW}
 use Rattle.lock_manager.specs.declared.request.Request.{Request}
-use Rattle.lock_manager.specs.declared.request.Request.TheVariants.{OpenFile, Dup, DupTo, CloseFd, Seek, Resize, Lk, Flock, Fork, Exit, Signal, Kill}
+use Rattle.lock_manager.specs.declared.request.Request.TheVariants.{OpenFile, Dup, DupTo, CloseFd, Seek, Resize, Lk, Flock, Fork, Exit, Signal, Kill, Enter, Leave, Bail}
 use Rattle.lock_manager.specs.declared.request.Reply.TheVariants as replies
 use Rattle.lock_manager.specs.declared.request.ProcState.{ProcState}
 use Rattle.lock_manager.specs.declared.request.ProcState.TheVariants.{Unborn, Live, Waiting, Ended}
@@ -28,6 +28,7 @@ use Rattle.lock_manager.specs.LockCommands.{GetComesTo, SetComesTo, SetOrWaitCom
 use Rattle.lock_manager.specs.declared.request.FlockOp.{FlockOp}
 use Rattle.lock_manager.specs.FlockCalls.{FlockTestComesTo, FlockModeComesTo, FlockComesTo}
 use Rattle.lock_manager.specs.ProcessCalls.{EndComesTo, SignalComesTo, KillOtherComesTo, KillComesTo}
+use Rattle.lock_manager.specs.Sections.{may_enter, may_leave}
 use Rattle.lock_manager.specs.Step.{ComesTo}
 use Rattle.lock_manager.specs.OneOutcome.{StepHasOneOutcome}
 use Rattle.lock_manager.proofs.unique.AtMostOneLemmas.{AtMostOne, one_value, MatchFact-unique, by_one, by_two}
@@ -130,6 +131,9 @@ ComesTo-unique rules processes S p n (Fork child) = grind (arith, common_steps, 
 ComesTo-unique rules processes S p n Exit = EndComesTo-unique S p []
 ComesTo-unique rules processes S p n (Signal target) = SignalComesTo-unique S p n target (S.states target)
 ComesTo-unique rules processes S p n (Kill target) = KillComesTo-unique S p n target
+ComesTo-unique rules processes S p n (Enter section visit) = MatchBool-by (λ P. AtMostOne P) (may_enter S.visits p section) _ _ (one_value _) (one_value _)
+ComesTo-unique rules processes S p n (Leave section) = MatchBool-by (λ P. AtMostOne P) (may_leave S.visits p section) _ _ (one_value _) (one_value _)
+ComesTo-unique rules processes S p n Bail = MatchBool-by (λ P. AtMostOne P) (S.refused p) _ _ (EndComesTo-unique S p []) (one_value _)
 ComesTo-unique rules processes S p n (Lk fd cmd lock) = LockComesTo-unique rules S p n fd cmd lock
 
 -- the step has one outcome

@@ -4,6 +4,7 @@ ghost use Rattle.wait_core.specs.WaitsView.{wait_of, without_wait_of};
 ghost use Rattle.wait_core.specs.WellFormed.{IsWellFormed};
 ghost use Rattle.lock_manager.specs.State.{State, StandsSo, with_process};
 ghost use Rattle.lock_manager.specs.ProcessCalls.{EndComesTo, without_wait};
+ghost use Rattle.lock_manager.specs.Sections.{BailComesTo};
 ghost use Rattle.lock_manager.specs.MachineView.{Shows, SameMachine, SameRules, Answers, Tells, machine_processes, machine_waits, machine_state};
 
 use super::Machine;
@@ -122,6 +123,24 @@ impl Machine {
             },
         };
         notes.push_reserved(answered(p, n, reply));
+    }
+
+    /// Where the last answer to the process was an error, as it says, the process ends, of which nothing is told; else it is answered.
+    /// It takes no memory.
+    pub(super) fn bail(&mut self, p: u8, n: u64, was_refused: bool, notes: &mut Vec<Note>)
+        requires live { machine_state self.old p ≡ ProcState.Live }
+        requires empty { notes.old.items ≡ [] }
+        requires room { length (machine_waits self.old) + 2 ≤ vec_capacity notes.old }
+        ensures told { (S : State) → Shows self.old S → S.refused p ≡ was_refused →
+            (T : State) × BailComesTo S p n (record { told = notes.new.items; after = T }) × Shows self.new T }
+        ensures few { length notes.new.items + length (machine_waits self.new) ≤ vec_capacity notes.new }
+        ensures same_rules { SameRules self.old self.new }
+    {
+        if was_refused {
+            self.end(p);
+            return;
+        }
+        notes.push_reserved(answered(p, n, Reply::Ok));
     }
 }
 

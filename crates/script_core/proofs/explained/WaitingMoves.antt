@@ -21,7 +21,7 @@ use Rattle.lock_manager.specs.declared.request.Note.{Note}
 use Rattle.lock_manager.specs.declared.request.Reply.{Reply}
 use Rattle.lock_manager.specs.declared.request.Reply.TheVariants as replies
 use Rattle.lock_manager.specs.declared.request.Request.{Request}
-use Rattle.lock_manager.specs.declared.request.Request.TheVariants.{OpenFile, Dup, DupTo, CloseFd, Seek, Resize, Lk, Flock, Fork, Exit, Signal, Kill}
+use Rattle.lock_manager.specs.declared.request.Request.TheVariants.{OpenFile, Dup, DupTo, CloseFd, Seek, Resize, Lk, Flock, Fork, Exit, Signal, Kill, Enter, Leave, Bail}
 use Rattle.lock_manager.specs.declared.request.ProcState.{ProcState}
 use Rattle.lock_manager.specs.declared.request.ProcState.TheVariants.{Unborn, Live, Waiting, Ended}
 use Rattle.lock_manager.specs.State.{State, opening_state, with_process, with_lock}
@@ -32,8 +32,9 @@ use Rattle.lock_manager.specs.LockWords.{is_get, is_bad_argument, wanted_mode, p
 use Rattle.lock_manager.specs.LockCommands.{GetComesTo, SetComesTo, CommandComesTo, DescribedComesTo}
 use Rattle.lock_manager.specs.FlockCalls.{FlockTestComesTo, FlockModeComesTo, FlockOpComesTo}
 use Rattle.lock_manager.specs.ProcessCalls.{ForkComesTo, EndComesTo, SignalComesTo, KillOtherComesTo, without_wait}
+use Rattle.lock_manager.specs.Sections.{may_enter, may_leave, marked}
 use Rattle.lock_manager.specs.Step.{ComesTo, Step}
-use Rattle.script_core.proofs.FitLemmas.{AreApart, SameProcesses, each_append, each_map, each_both, each_middle, apart_middle, apart_push, same_locked}
+use Rattle.script_core.proofs.FitLemmas.{AreApart, SameProcesses, each_append, each_map, each_both, each_middle, apart_middle, apart_push, same_locked, marked_same}
 use Rattle.script_core.proofs.OutcomeFitLemmas.{by_bool, each_other, others_left, apart_left, same_all, same_but, same_released, moved_alive}
 use Rattle.script_core.proofs.DeadlockStepLemmas.{if_option, if_result}
 
@@ -226,10 +227,21 @@ request_stands rules processes S p n (Signal target) outcome h live is = signal_
 request_stands rules processes S p n (Kill target) outcome h live is =
     by_bool (target == p) is (λ own. end_stands S p [] outcome h (λ e. let bad : Live ≡ Unborn = sym live ∙ e in cc) own)
     (λ other. kill_stands S p n target (S.states target) outcome h refl other)
+request_stands rules processes S p n (Enter section visit) outcome h live is =
+    by_bool (may_enter S.visits p section) is (λ done. stays_standing S p n _ [] outcome h done) (λ no. stays_standing S p n _ [] outcome h no)
+request_stands rules processes S p n (Leave section) outcome h live is =
+    by_bool (may_leave S.visits p section) is (λ done. stays_standing S p n _ [] outcome h done) (λ no. stays_standing S p n _ [] outcome h no)
+request_stands rules processes S p n Bail outcome h live is =
+    by_bool (S.refused p) is (λ ends. end_stands S p [] outcome h (λ e. let bad : Live ≡ Unborn = sym live ∙ e in cc) ends)
+    (λ goes_on. stays_standing S p n _ [] outcome h goes_on)
+
+-- who is in which section, and was refused, changes nothing of it
+pub marked_stands : (S : State) (p : ℕ) (request : Request) (outcome : Outcome) → AreStanding outcome.after → AreStanding (marked S p request outcome)
+marked_stands S p request outcome h = same_stand outcome.after (marked S p request outcome) h (marked_same S p request outcome)
 
 -- each step keeps it
 pub step_stands : (rules : Rules) (processes : ℕ) (S : State) (p n : ℕ) (request : Request) (notes : List Note) (T : State) → AreStanding S
     → Step rules processes S p n request notes T → AreStanding T
 step_stands rules processes S p n request notes T h step =
-    (settles_stand rules.policy step.outcome.after step.grants T step.settles
-    (request_stands rules processes S p n request step.outcome h step.live step.comes_to)).0
+    (settles_stand rules.policy (marked S p request step.outcome) step.grants T step.settles
+    (marked_stands S p request step.outcome (request_stands rules processes S p n request step.outcome h step.live step.comes_to))).0

@@ -18,12 +18,17 @@ use Rattle.lock_manager.specs.declared.request.LkCmd.{LkCmd}
 use Rattle.lock_manager.specs.declared.request.FlockOp.TheVariants.{Sh, Ex, Un}
 use Rattle.lock_manager.specs.declared.request.Note.{Note}
 use Rattle.lock_manager.specs.declared.request.Request.{Request}
-use Rattle.lock_manager.specs.declared.request.Request.TheVariants.{OpenFile, Dup, DupTo, CloseFd, Seek, Resize, Lk, Flock, Fork, Exit, Signal, Kill}
+use Rattle.lock_manager.specs.declared.request.Request.TheVariants.{OpenFile, Dup, DupTo, CloseFd, Seek, Resize, Lk, Flock, Fork, Exit, Signal, Kill, Enter, Leave, Bail}
 use Rattle.lock_manager.specs.declared.request.ProcState.TheVariants.{Live}
-use Rattle.lock_manager.specs.State.{State, opening_state}
-use Rattle.lock_manager.specs.Settling.{Settles}
+use Rattle.wait_core.specs.declared.Family.{Family}
+use Rattle.wait_core.specs.declared.Family.TheVariants.{Bytes, Whole}
+use Rattle.wait_core.specs.declared.Policy.{Policy}
+use Rattle.lock_manager.specs.State.{State, opening_state, with_lock_of, with_process}
+use Rattle.lock_manager.specs.Settling.{Settles, granted}
+use Rattle.wait_core.specs.declared.Wait.{Wait}
 use Rattle.lock_manager.specs.Outcomes.{Outcome}
 use Rattle.lock_manager.specs.LockWords.{wanted_mode}
+use Rattle.lock_manager.specs.Sections.{may_enter, may_leave, marked}
 use Rattle.lock_manager.specs.Step.{ComesTo}
 use Rattle.session_core.specs.Event.{Event}
 use Rattle.session_core.specs.Runs.{IsStep, Leads}
@@ -35,11 +40,11 @@ use Rattle.script_core.proofs.FilesLemmas.{opening_files, step_files, look_file}
 use Rattle.script_core.proofs.DeadlockStepLemmas.{if_option}
 use Rattle.script_core.proofs.explained.LossLaws.{goes_with, released_reported}
 use Rattle.script_core.proofs.explained.ReportPlaceLemmas.{PlaceTest, bytes_at, flocks_at, file_reported, none_reported, no_bytes, one_flock}
-use Rattle.script_core.proofs.explained.WaitingMoves.{AreStanding, opening_stands, step_stands, request_stands}
+use Rattle.script_core.proofs.explained.WaitingMoves.{AreStanding, opening_stands, step_stands, request_stands, marked_stands}
 use Rattle.script_core.proofs.gone.GoneLaws.{Leaves, gone_is}
 use Rattle.script_core.proofs.gone.HolderMoves.{AreHeld, Keeps, keeps_then, opening_held, settles_held, settles_keep}
-use Rattle.script_core.proofs.gone.StepMoves.{Stays, StaysBut, KeepsBut, but_then, told_stays, open_stays, dup_stays, seek_stays, resize_stays, fork_stays, signal_stays, described_held, described_stays, shared_stays, exclusive_stays, op_held}
-use Rattle.script_core.proofs.gone.TakenMoves.{IsTaken, keeps_leave, close_taken, dup_to_taken, end_taken, kill_taken, settles_leave}
+use Rattle.script_core.proofs.gone.StepMoves.{Stays, StaysBut, KeepsBut, but_then, told_stays, tested_stays, open_stays, dup_stays, seek_stays, resize_stays, fork_stays, signal_stays, described_held, described_stays, shared_stays, exclusive_stays, op_held}
+use Rattle.script_core.proofs.gone.TakenMoves.{IsTaken, keeps_leave, close_taken, dup_to_taken, end_taken, kill_taken, bail_taken, settles_leave}
 
 -- ---- the states of a run
 
@@ -70,6 +75,17 @@ request_held rules processes S p n (Signal target) outcome standing h live is =
     (signal_stays processes (descriptor_limit rules.limits) S p n target (S.states target) outcome h refl is).held
 request_held rules processes S p n (Kill target) outcome standing h live is =
     (kill_taken processes (descriptor_limit rules.limits) S p n target outcome h live is).held
+request_held rules processes S p n (Enter section visit) outcome standing h live is =
+    (tested_stays processes (descriptor_limit rules.limits) S p n (may_enter S.visits p section) outcome h is).held
+request_held rules processes S p n (Leave section) outcome standing h live is =
+    (tested_stays processes (descriptor_limit rules.limits) S p n (may_leave S.visits p section) outcome h is).held
+request_held rules processes S p n Bail outcome standing h live is = (bail_taken processes (descriptor_limit rules.limits) S p n outcome h is).held
+
+-- who is in which section, and was refused, changes nothing of it
+marked_held : (processes limit : ℕ) (S : State) (p : ℕ) (request : Request) (outcome : Outcome) → AreHeld processes limit outcome.after
+    → AreHeld processes limit (marked S p request outcome)
+marked_held processes limit S p request outcome h =
+    record { bytes = h.bytes; flocks = h.flocks; waits = h.waits; descriptors = h.descriptors; numbered = h.numbered }
 
 -- what holds of each state that a run leaves
 record IsReached (processes limit : ℕ) (S : State) : Type 0 where
@@ -80,12 +96,15 @@ record IsReached (processes limit : ℕ) (S : State) : Type 0 where
 step_reaches : (rules : Rules) (processes : ℕ) (S : State) (event : Event) (T : State) → IsReached processes (descriptor_limit rules.limits) S
     → IsStep rules processes S event T → IsReached processes (descriptor_limit rules.limits) T
 step_reaches rules processes S event T reached step =
+    let behind = marked S event.p event.request step.outcome in
     let standing = request_stands rules processes S event.p event.n event.request step.outcome reached.standing step.live step.comes_to in
     record {
       files = step_files rules processes S event.p event.n event.request event.notes T step reached.files;
       standing = step_stands rules processes S event.p event.n event.request event.notes T reached.standing step;
-      held = settles_held processes (descriptor_limit rules.limits) rules.policy step.outcome.after step.grants T step.settles standing
-          (request_held rules processes S event.p event.n event.request step.outcome reached.standing reached.held step.live step.comes_to);
+      held = settles_held processes (descriptor_limit rules.limits) rules.policy behind step.grants T step.settles
+          (marked_stands S event.p event.request step.outcome standing)
+          (marked_held processes (descriptor_limit rules.limits) S event.p event.request step.outcome
+          (request_held rules processes S event.p event.n event.request step.outcome reached.standing reached.held step.live step.comes_to));
     }
 
 leads_reach : (rules : Rules) (processes : ℕ) (S : State) (events : List Event) (T : State) → IsReached processes (descriptor_limit rules.limits) S
@@ -316,12 +335,48 @@ event_differs one rules processes S p n (Signal target) outcome grants T reached
 event_differs one rules processes S p n (Kill target) outcome grants T reached live is settles released are =
     closing one processes (descriptor_limit rules.limits) rules S (closed_by rules.limits S p (Kill target)) outcome grants T reached.files
     (kill_taken processes (descriptor_limit rules.limits) S p n target outcome reached.held live is) settles released are
+event_differs one rules processes S p n (Enter section visit) outcome grants T reached live is settles released none =
+    plain one processes (descriptor_limit rules.limits) rules S outcome grants T
+    (tested_stays processes (descriptor_limit rules.limits) S p n (may_enter S.visits p section) outcome reached.held is) settles released none
+event_differs one rules processes S p n (Leave section) outcome grants T reached live is settles released none =
+    plain one processes (descriptor_limit rules.limits) rules S outcome grants T
+    (tested_stays processes (descriptor_limit rules.limits) S p n (may_leave S.visits p section) outcome reached.held is) settles released none
+event_differs one rules processes S p n Bail outcome grants T reached live is settles released are =
+    closing one processes (descriptor_limit rules.limits) rules S (closed_by rules.limits S p Bail) outcome grants T reached.files
+    (bail_taken processes (descriptor_limit rules.limits) S p n outcome reached.held is) settles released are
+
+-- with others in sections, and refused, the settling is the same
+unmarked : State → State → State
+unmarked U T = record T { visits = U.visits; refused = U.refused }
+
+unmarked_lock : (family : Family) (owner : Owner) (U S : State) (wait : Wait)
+    → unmarked U (with_lock_of family owner S wait) ≡ with_lock_of family owner (unmarked U S) wait
+unfolding unmarked
+unmarked_lock Bytes owner U S wait = refl
+unmarked_lock Whole (Process p) U S wait = refl
+unmarked_lock Whole (Description d) U S wait = refl
+
+settles_unmarked : (policy : Policy) (U S : State) (grants : List Note) (T : State) → Settles policy S grants T
+    → Settles policy (unmarked U S) grants (unmarked U T)
+unfolding unmarked
+settles_unmarked policy U S [] T (settled, is) = (settled, ap (unmarked U) is)
+settles_unmarked policy U S (grant ∷ grants) T (before, wait, after, next, is, rest) = (
+  before,
+  wait,
+  after,
+  next,
+  is,
+  subst (λ (X : State). Settles policy (with_process (record X { waits = before ++ after }) wait.p Live) grants (unmarked U T))
+      (unmarked_lock wait.family wait.owner U S wait) (settles_unmarked policy U (granted S before wait after) grants T rest),
+)
 
 pub losses_are_differences : LocksHaveOneReport → LossesAreDifferences
+unfolding unmarked
 losses_are_differences one rules processes events S event T before after released some leads step first second are =
     let reached = reached_state rules processes events S some leads in
     by_test (is_unlock event.request)
-    (event_differs one rules processes S event.p event.n event.request step.outcome step.grants T reached step.live step.comes_to step.settles released are)
+    (event_differs one rules processes S event.p event.n event.request step.outcome step.grants (unmarked step.outcome.after T) reached step.live step.comes_to
+    (settles_unmarked rules.policy step.outcome.after (marked S event.p event.request step.outcome) step.grants T step.settles) released are)
   where
     by_test : (unlock : Bool)
         → MatchBool unlock (released ++ lost S T event.p event.request ≡ []) (IsDifference S T (released ++ lost S T event.p event.request))

@@ -1,5 +1,5 @@
 -- Each step keeps who has what open; and what a request comes to that closes nothing takes no lock, but an unlock and a conversion by flock.
-use Rattle.std.proofs.Common.{arith, rules, ne_eqb, ◌≡◌, ◌≢◌, ℕ, ◌≤◌, ◌==◌, ◌&&◌, ◌||◌, inl, inr, Bool, true, false, MatchOption, if◌then◌else◌, Option, Some, None, option_map, Ok, Err, List, [], ◌∷◌, refl, sym, ap, ◌∙◌, subst, eq-eqb, ⊎_elim, ℤ}
+use Rattle.std.proofs.Common.{arith, rules, ne_eqb, ◌≡◌, ◌≢◌, ℕ, ◌≤◌, ◌==◌, ◌&&◌, ◌||◌, inl, inr, Bool, true, false, MatchBool, MatchOption, if◌then◌else◌, Option, Some, None, option_map, Ok, Err, List, [], ◌∷◌, refl, sym, ap, ◌∙◌, subst, eq-eqb, ⊎_elim, ℤ}
 use Rattle.std.proofs.lemmas.Grind.{common_steps}
 use Rattle.std.proofs.lemmas.Bool.{cases_eq}
 use Rattle.range_core.specs.declared.Mode.{Mode}
@@ -19,6 +19,7 @@ use Rattle.lock_manager.specs.declared.request.Rules.{Rules}
 use Rattle.lock_manager.specs.declared.request.Lock.{Lock}
 use Rattle.lock_manager.specs.declared.request.LkCmd.{LkCmd}
 use Rattle.lock_manager.specs.declared.request.LkCmd.TheVariants.{GetLk, SetLk, SetLkW, OGetLk, OSetLk, OSetLkW}
+use Rattle.lock_manager.specs.declared.request.Errno.TheVariants.{EINVAL}
 use Rattle.lock_manager.specs.declared.request.FlockOp.{FlockOp}
 use Rattle.lock_manager.specs.declared.request.FlockOp.TheVariants.{Sh, Ex, Un}
 use Rattle.lock_manager.specs.declared.request.Note.{Note}
@@ -28,7 +29,7 @@ use Rattle.lock_manager.specs.declared.request.ProcState.{ProcState}
 use Rattle.lock_manager.specs.declared.request.ProcState.TheVariants.{Unborn, Live, Waiting, Ended}
 use Rattle.lock_manager.specs.State.{State, with_lock, with_byte_mode, with_flock_mode, with_process}
 use Rattle.lock_manager.specs.Settling.{Settles, granted}
-use Rattle.lock_manager.specs.Outcomes.{Outcome, IsRefusal, answered, answered_then, waits_then}
+use Rattle.lock_manager.specs.Outcomes.{Outcome, IsRefusal, answered, answered_then, refused, waits_then}
 use Rattle.lock_manager.specs.DescriptorCalls.{OpenComesTo, DupComesTo, SeekComesTo, ResizeComesTo}
 use Rattle.lock_manager.specs.LockWords.{is_get, is_bad_argument, wanted_mode, permits, wanted_lock, held_reply, lock_owner, is_ofd}
 use Rattle.lock_manager.specs.LockCommands.{GetComesTo, SetComesTo, CommandComesTo, ModeComesTo, DescribedComesTo}
@@ -62,6 +63,12 @@ answered_stays processes limit S T p n reply grants outcome held keeps is =
 pub told_stays : (processes limit : ℕ) (S : State) (p n : ℕ) (reply : Reply) (grants : List Note) (outcome : Outcome) → AreHeld processes limit S
     → outcome ≡ answered_then S p n reply grants → Stays processes limit S outcome
 told_stays processes limit S p n reply grants outcome h is = answered_stays processes limit S S p n reply grants outcome h (keeps_all S) is
+
+-- the caller is answered or refused, by a test
+pub tested_stays : (processes limit : ℕ) (S : State) (p n : ℕ) (test : Bool) (outcome : Outcome) → AreHeld processes limit S
+    → MatchBool test (outcome ≡ answered S p n replies.Ok) (outcome ≡ refused S p n EINVAL) → Stays processes limit S outcome
+tested_stays processes limit S p n test outcome h is =
+    by_bool test is (λ done. told_stays processes limit S p n _ [] outcome h done) (λ no. told_stays processes limit S p n _ [] outcome h no)
 
 pub refusal_stays : (processes limit : ℕ) (S : State) (p n : ℕ) (fault : FdFault) (outcome : Outcome) → AreHeld processes limit S
     → IsRefusal S p n fault outcome → Stays processes limit S outcome

@@ -17,14 +17,16 @@ use Rattle.wait_core.specs.declared.Policy.{Policy}
 use Rattle.wait_core.specs.declared.Wait.{Wait}
 use Rattle.lock_manager.specs.declared.request.Rules.{Rules}
 use Rattle.lock_manager.specs.declared.request.Note.{Note}
+use Rattle.lock_manager.specs.declared.request.Reply.TheVariants as replies
 use Rattle.lock_manager.specs.declared.request.Request.TheVariants.{DupTo}
 use Rattle.lock_manager.specs.declared.request.ProcState.{ProcState}
 use Rattle.lock_manager.specs.declared.request.ProcState.TheVariants.{Unborn, Live, Waiting, Ended}
 use Rattle.lock_manager.specs.State.{State, with_lock_of, with_process}
 use Rattle.lock_manager.specs.Settling.{Settles, granted}
-use Rattle.lock_manager.specs.Outcomes.{Outcome}
+use Rattle.lock_manager.specs.Outcomes.{Outcome, answered}
 use Rattle.lock_manager.specs.DescriptorCalls.{with_released, DupToComesTo, CloseComesTo}
 use Rattle.lock_manager.specs.ProcessCalls.{EndComesTo, KillComesTo, KillOtherComesTo, without_wait}
+use Rattle.lock_manager.specs.Sections.{BailComesTo}
 use Rattle.script_core.specs.declared.losses.Closing.{Closing}
 use Rattle.script_core.specs.declared.losses.Closing.TheVariants.{Nothing, OneOf, AllOf}
 use Rattle.script_core.specs.Losses.{closed_by, killed, is_alive, stays_open}
@@ -285,6 +287,15 @@ kill_taken processes limit S p n target outcome h live is =
     other_taken Ended is = none_taken processes limit S Nothing outcome (λ whole file owner. refl) (told_stays processes limit S p n _ [] outcome h is)
     other_taken Live is = end_taken processes limit S target _ outcome h is
     other_taken Waiting is = end_taken processes limit S target _ outcome h is
+
+pub bail_taken : (processes limit : ℕ) (S : State) (p n : ℕ) (outcome : Outcome) → AreHeld processes limit S → BailComesTo S p n outcome
+    → IsTaken processes limit S (if S.refused p then AllOf p else Nothing) outcome
+bail_taken processes limit S p n outcome h is = by_test (S.refused p) is
+  where
+    by_test : (was_refused : Bool) → MatchBool was_refused (EndComesTo S p [] outcome) (outcome ≡ answered S p n replies.Ok)
+        → IsTaken processes limit S (if was_refused then AllOf p else Nothing) outcome
+    by_test true is = end_taken processes limit S p [] outcome h is
+    by_test false is = none_taken processes limit S Nothing outcome (λ whole file owner. refl) (told_stays processes limit S p n _ [] outcome h is)
 
 -- ---- behind the settling
 

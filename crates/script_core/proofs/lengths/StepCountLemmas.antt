@@ -20,7 +20,7 @@ use Rattle.lock_manager.specs.declared.request.Lock.{Lock}
 use Rattle.lock_manager.specs.declared.request.LkCmd.{LkCmd}
 use Rattle.lock_manager.specs.declared.request.FlockOp.{FlockOp}
 use Rattle.lock_manager.specs.declared.request.Request.{Request}
-use Rattle.lock_manager.specs.declared.request.Request.TheVariants.{OpenFile, Dup, DupTo, CloseFd, Seek, Resize, Lk, Flock, Fork, Exit, Signal, Kill}
+use Rattle.lock_manager.specs.declared.request.Request.TheVariants.{OpenFile, Dup, DupTo, CloseFd, Seek, Resize, Lk, Flock, Fork, Exit, Signal, Kill, Enter, Leave, Bail}
 use Rattle.lock_manager.specs.declared.request.Note.{Note}
 use Rattle.lock_manager.specs.declared.request.Reply.{Reply}
 use Rattle.lock_manager.specs.declared.request.Reply.TheVariants as replies
@@ -34,6 +34,7 @@ use Rattle.lock_manager.specs.LockWords.{lock_owner}
 use Rattle.lock_manager.specs.LockCommands.{DescribedComesTo, RangeComesTo, ModeComesTo, GetComesTo, SetComesTo, IsLocked}
 use Rattle.lock_manager.specs.FlockCalls.{FlockOpComesTo, FlockTestComesTo}
 use Rattle.lock_manager.specs.ProcessCalls.{ForkComesTo, EndComesTo, SignalComesTo, KillOtherComesTo}
+use Rattle.lock_manager.specs.Sections.{may_enter, may_leave}
 use Rattle.lock_manager.specs.Step.{ComesTo, Step}
 use Rattle.script_core.proofs.FitLemmas.{same_locked}
 use Rattle.script_core.proofs.OutcomeFitLemmas.{by_bool, fewer_left}
@@ -244,6 +245,12 @@ request_grows rules processes S p n (Signal target) outcome is = signal_grows S 
 request_grows rules processes S p n (Kill target) outcome is =
     by_bool (target == p) is (λ own. end_grows S p [] outcome (omega arith) own)
     (λ other. kill_grows S p n target (S.states target) outcome other)
+request_grows rules processes S p n (Enter section visit) outcome is =
+    by_bool (may_enter S.visits p section) is (λ done. answer_grows S S p n _ outcome refl refl done) (λ no. refused_grows S p n _ outcome no)
+request_grows rules processes S p n (Leave section) outcome is =
+    by_bool (may_leave S.visits p section) is (λ done. answer_grows S S p n _ outcome refl refl done) (λ no. refused_grows S p n _ outcome no)
+request_grows rules processes S p n Bail outcome is =
+    by_bool (S.refused p) is (λ ends. end_grows S p [] outcome (omega arith) ends) (λ goes_on. answer_grows S S p n _ outcome refl refl goes_on)
 
 -- an event adds two at most
 pub step_grows : (rules : Rules) (processes : ℕ) (S : State) (p n : ℕ) (request : Request) (notes : List Note) (T : State)

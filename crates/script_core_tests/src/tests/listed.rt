@@ -1,7 +1,7 @@
 //! The lock manager against one whose waits are a plain list, request by request: on the worked scripts, and on scripts that are made by a
 //! written rule.
 use super::RULES;
-use super::made::{next_process, next_request};
+use super::made::{next_process, next_request, next_request_in_sections};
 use super::taking::script_of;
 use super::worked::ROWS;
 use fd_table::{Access, Limits};
@@ -25,6 +25,11 @@ struct Seen {
     interrupted: u64,
     /// How many conversions by flock let others pass.
     passed: u64,
+    /// How many entered a section, and how many left one.
+    visits: u64,
+    /// How many bails ended their process, and how many were answered.
+    ended: u64,
+    stayed: u64,
 }
 
 impl Seen {
@@ -32,6 +37,7 @@ impl Seen {
     fn count(&mut self, entry: &Entry) {
         let notes = entry.notes.as_slice();
         add_one(&mut self.entries);
+        self.count_section(entry.p, entry.request, notes);
         if is_flock_lock(entry.request) && notes.len() > 1 {
             add_one(&mut self.passed);
         }
@@ -40,6 +46,22 @@ impl Seen {
                 Note::Waits { .. } => add_one(&mut self.waits),
                 Note::Answer { p, reply, .. } => self.count_answer(*p == entry.p, *reply),
             }
+        }
+    }
+
+    /// Counts what a request of a section, or a bail, came to.
+    fn count_section(&mut self, caller: u8, request: Request, notes: &[Note]) {
+        let own = match notes {
+            [Note::Answer { p, reply, .. }, ..] if *p == caller => Some(*reply),
+            _ => None,
+        };
+        match request {
+            Request::Enter { .. } | Request::Leave { .. } if own == Some(Reply::Ok) => {
+                add_one(&mut self.visits);
+            }
+            Request::Bail if own.is_none() => add_one(&mut self.ended),
+            Request::Bail => add_one(&mut self.stayed),
+            _ => {},
         }
     }
 
@@ -185,6 +207,26 @@ fn tells_the_same_notes_often(rt: HostRuntime) -> Result<(), Fail> {
     );
     assert!(rt;
         seen.deadlocks > 100 && seen.interrupted > 200 && seen.passed > 50,
+        "{seen:?}"
+    );
+    Ok(())
+}
+
+/// So they do on 500 scripts in which processes also enter sections, leave them and bail.
+#[test]
+fn tells_the_same_of_sections_often(rt: HostRuntime) -> Result<(), Fail> {
+    let mut seen = Seen::default();
+    for x in 0..500u64 {
+        let mut both = Both::new(rt.alloc(), rules_of(x))?;
+        open_all(&rt, &mut both, &mut seen)?;
+        let mut rule = Rule::new(x);
+        for _request in 0..40u8 {
+            let p = next_process(&mut rule);
+            both.send(&rt, p, next_request_in_sections(&mut rule), &mut seen)?;
+        }
+    }
+    assert!(rt;
+        seen.visits > 1000 && seen.ended > 250 && seen.stayed > 250,
         "{seen:?}"
     );
     Ok(())

@@ -2,7 +2,7 @@
 ghost use Rattle.std.specs.Prelude.{◌≤◌};
 
 use fd_table::Access;
-use lock_manager::{FlockOp, LkCmd, Lock, Request};
+use lock_manager::{FlockOp, LkCmd, Lock, Request, Visit};
 use range_core::{Kind, Whence};
 use wait_core_tests::rule::Rule;
 
@@ -81,6 +81,9 @@ const OPERATIONS: [FlockOp; 5] = [
     FlockOp::Un,
 ];
 
+/// Sections: the first two and the last, and one that there isn't.
+const SECTIONS: [u8; 4] = [0, 1, 63, 64];
+
 /// One of five processes, the last of them half as often, since it is born only where somebody forks it.
 pub(super) fn next_process(rule: &mut Rule) -> u8
     ensures { (1 ≤ result) × (result ≤ 5) }
@@ -99,6 +102,30 @@ pub(super) fn next_request(rule: &mut Rule) -> Request {
         30 if rule.below(4) == 0 => next_end_or_birth(rule),
         _ => next_descriptor_call(rule),
     }
+}
+
+/// A request, which as often as not is one of a section, or a bail.
+pub(super) fn next_request_in_sections(rule: &mut Rule) -> Request {
+    match rule.below(8) {
+        0 | 1 => Request::Enter {
+            section: next_section(rule),
+            visit: if rule.below(2) == 0 {
+                Visit::Sole
+            } else {
+                Visit::Shared
+            },
+        },
+        2 => Request::Leave {
+            section: next_section(rule),
+        },
+        3 => Request::Bail,
+        _ => next_request(rule),
+    }
+}
+
+/// One of these sections.
+fn next_section(rule: &mut Rule) -> u8 {
+    SECTIONS[rule.below(4) as usize]
 }
 
 /// A descriptor, which may be closed.

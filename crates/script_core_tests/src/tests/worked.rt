@@ -1218,6 +1218,65 @@ policy held
 ",
     },
     Row {
+        name: "visits-and-who-bails",
+        script: b"1 open 0 rw
+1 fork 2
+1 fork 3
+1 bail
+2 bail
+1 enter 7 sh
+2 enter 7 sh
+3 enter 7
+1 enter 7
+2 leave 8
+3 leave 7
+3 leave 7
+3 enter 7 sh
+1 setlk 0 w set 0 1
+2 getlk 0 w set 0 1
+2 bail
+3 setlkw 0 w set 0 1
+2 signal 3
+3 bail
+3 enter 0
+2 setlkw 0 r set 0 2
+1 enter 7
+1 bail
+1 leave 7
+2 bail
+2 setlk 0 w set 5 1
+2 setlk 9 w set 5 1
+2 bail
+",
+        entries: b"1#1 open 0 rw | 1#1 fd 0
+1#2 fork 2 | 1#2 ok
+1#3 fork 3 | 1#3 ok
+1#4 bail | 1#4 ok
+2#1 bail | 2#1 ok
+1#5 enter 7 sh | 1#5 ok
+2#2 enter 7 sh | 2#2 ok
+3#1 enter 7 | 3#1 ok
+1#6 enter 7 | 1#6 EINVAL
+2#3 leave 8 | 2#3 EINVAL
+3#2 leave 7 | 3#2 ok
+3#3 leave 7 | 3#3 EINVAL
+3#4 enter 7 sh | 3#4 ok
+1#7 setlk 0 w set 0 1 | 1#7 ok
+2#4 getlk 0 w set 0 1 | 2#4 held w 0 1 1
+2#5 bail | 2#5 ok
+3#5 setlkw 0 w set 0 1 | 3#5 waits
+2#6 signal 3 | 2#6 ok | 3#5 EINTR
+3#6 bail
+2#7 setlkw 0 r set 0 2 | 2#7 waits
+1#8 enter 7 | 1#8 EINVAL
+1#9 bail | 2#7 ok
+2#8 bail | 2#8 ok
+2#9 setlk 0 w set 5 1 | 2#9 ok
+2#10 setlk 9 w set 5 1 | 2#10 EBADF
+2#11 bail
+",
+    },
+    Row {
         name: "without-the-header-line-the-reader-passes",
         script: b"1 open 0 rw
 1 fork 2

@@ -20,7 +20,7 @@ use Rattle.lock_manager.specs.declared.request.FlockOp.TheVariants.{Sh, Ex, Un}
 use Rattle.lock_manager.specs.declared.request.Errno.{Errno}
 use Rattle.lock_manager.specs.declared.request.Errno.TheVariants.{EBADF}
 use Rattle.lock_manager.specs.declared.request.Request.{Request}
-use Rattle.lock_manager.specs.declared.request.Request.TheVariants.{OpenFile, Dup, DupTo, CloseFd, Seek, Resize, Lk, Flock, Fork, Exit, Signal, Kill}
+use Rattle.lock_manager.specs.declared.request.Request.TheVariants.{OpenFile, Dup, DupTo, CloseFd, Seek, Resize, Lk, Flock, Fork, Exit, Signal, Kill, Enter, Leave, Bail}
 use Rattle.lock_manager.specs.declared.request.Note.{Note}
 use Rattle.lock_manager.specs.declared.request.Note.TheVariants.{Answer, Waits}
 use Rattle.lock_manager.specs.declared.request.Reply.TheVariants as replies
@@ -35,12 +35,12 @@ use Rattle.session_core.specs.Event.{Event}
 use Rattle.session_core.specs.Runs.{IsStep, Leads, IsRun}
 use Rattle.lock_manager.specs.Asking.{AsksForBytes, AsksForWhole}
 use Rattle.session_core.specs.QueuePolicy.{WouldWaitAs, HasFlock, SetsAtOnce, IsTested, IsOver, notes_told, PassesNoneTold, NotesAreOfWaits, RequestsJoinTheQueue}
-use Rattle.session_core.proofs.tallies.Tally.{Each-append, Each-map}
+use Rattle.session_core.proofs.tallies.Tally.{Each-append, Each-map, Contains-here}
 use Rattle.session_core.proofs.tallies.OutcomeLaws.{cases_fact, cases_bool}
 use Rattle.session_core.proofs.queue.AnyLemmas.{Any-here, Any-there}
 use Rattle.session_core.proofs.queue.WaitPlaces.{Anything, StandsIn, StandsIn-each, Passes}
 use Rattle.session_core.proofs.queue.WaitMoves.{Joins, ready_apart, Settles-passes, Step-moves}
-use Rattle.session_core.proofs.queue.TurnLemmas.{Contains-here, Contains-there, Passes-answers, Waits-join}
+use Rattle.session_core.proofs.queue.TurnLemmas.{Contains-there, Passes-answers, Waits-join}
 use Rattle.session_core.proofs.LeadsLemmas.{Leads-split, Leads-unique}
 use Rattle.session_core.proofs.queue.TurnLaws.{has_waited, WouldWaitAs-of}
 
@@ -212,6 +212,9 @@ module _ (rules : Rules) (S : State) (event : Event) (p n : ℕ) (outcome : Outc
   request_kept processes Exit wanted asks sets is = absurd asks
   request_kept processes (Signal target) wanted asks sets is = absurd asks
   request_kept processes (Kill target) wanted asks sets is = absurd asks
+  request_kept processes (Enter section visit) wanted asks sets is = absurd asks
+  request_kept processes (Leave section) wanted asks sets is = absurd asks
+  request_kept processes Bail wanted asks sets is = absurd asks
 
 -- the step of the event, from the state before it
 event_kept : StepHasOneOutcome → (rules : Rules) (processes : ℕ) (before : List Event) (event : Event) (after : List Event) (S T : State)

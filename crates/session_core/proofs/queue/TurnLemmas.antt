@@ -12,19 +12,17 @@ use Rattle.lock_manager.specs.declared.request.Note.{Note}
 use Rattle.lock_manager.specs.declared.request.Note.TheVariants.{Answer, Waits}
 use Rattle.lock_manager.specs.declared.request.Reply.TheVariants as replies
 use Rattle.lock_manager.specs.declared.request.ProcState.{ProcState}
+use Rattle.lock_manager.specs.declared.request.ProcState.TheVariants.{Live}
 use Rattle.lock_manager.specs.declared.request.Request.{Request}
 use Rattle.lock_manager.specs.State.{State}
 use Rattle.session_core.specs.Event.{Event}
 use Rattle.session_core.specs.Headline.{EndsProcess}
 use Rattle.session_core.specs.QueuePolicy.{WouldWaitAs, IsOver}
-use Rattle.session_core.proofs.tallies.Tally.{IsLastTaken, Each-append, None-contains}
+use Rattle.session_core.proofs.tallies.Tally.{IsLastTaken, Each-append, None-contains, Contains-here}
 use Rattle.session_core.proofs.tallies.Moves.{found_wait}
 use Rattle.session_core.proofs.queue.AnyLemmas.{Any-here, Any-weaker}
 use Rattle.session_core.proofs.queue.WaitPlaces.{Anything, Each-anything, StandsIn, StandsIn-push, StandsIn-last, StandsIn-middle, StandsIn-where, StandsIn-without, StandsIn-each, Passes}
-use Rattle.session_core.proofs.queue.WaitMoves.{Joins, IsToldOf, Ends, WaitsMove, answers, joins, interrupts, ends}
-
-pub Contains-here : {X : Type 0} (x y : X) (xs : List X) → x ≡ y → Contains (x ∷ xs) y
-Contains-here x y xs same = (0, (let n = length xs in omega arith), same)
+use Rattle.session_core.proofs.queue.WaitMoves.{Joins, IsToldOf, Ends, WaitsMove, answers, joins, interrupts, ends, bails}
 
 pub Contains-there : {X : Type 0} (x y : X) (xs : List X) → Contains xs y → Contains (x ∷ xs) y
 Contains-there x y xs (k, within, is) = (suc k, omega (arith, within), is)
@@ -135,9 +133,16 @@ Waits-join S p n request notes left q m (interrupts h) among =
     absurd
     (no_waits q m (without_wait_of S.waits h.target) (Answer p n replies.Ok ∷ Answer h.target h.wait.n (replies.Err EINTR) ∷ []) h.grants left notes
     ((λ e. cc), ((λ e. cc), tt)) h.passes h.are among)
+Waits-join S p n request notes left q m (bails h) among =
+    absurd (no_waits q m (without_wait_of S.waits p) [] notes left notes tt h.passes refl among)
 Waits-join S p n request notes left q m (ends h) among =
     let apart = told_apart p n request h.target h.told (Waits q m) (λ e. cc) h.how in
     absurd (no_waits q m (without_wait_of S.waits h.target) h.told h.grants left notes apart h.passes h.are among)
+
+-- a live process has no wait in the list
+live_apart : (S : State) (taken : ℕ → ℕ) (P Q : Wait → Type 0) (v : Wait) (waits : List Wait) (p : ℕ) → Each (IsLastTaken S.states taken) waits
+    → StandsIn P Q v waits → S.states p ≡ Live → v.p ≢ p
+live_apart S taken P Q v waits p lasts stands live same = grind (arith, common_steps, StandsIn-each)
 
 -- the event that ends a process does so in the words of the headline
 ends_process : (event : Event) (waits left : List Wait) → (h : Ends waits event.p event.n event.request event.notes left) → EndsProcess event h.target
@@ -189,6 +194,9 @@ Move-stands P Q v S taken event left lasts joined (interrupts h) stands =
     Passes-over P Q v event (without_wait_of S.waits h.target) (caller ∷ eintr ∷ []) h.grants left h.are h.passes
     (StandsIn-without P Q v h.target S.waits differs stands))
     (cases_eq v.p h.target)
+Move-stands P Q v S taken event left lasts joined (bails h) stands =
+    Passes-over P Q v event (without_wait_of S.waits event.p) [] event.notes left refl h.passes
+    (StandsIn-without P Q v event.p S.waits (live_apart S taken P Q v S.waits event.p lasts stands h.live) stands)
 Move-stands P Q v S taken event left lasts joined (ends h) stands =
     ⊎_elim
     (λ same.
@@ -267,6 +275,9 @@ Move-turn v w S taken event left told others lasts joined differ conflict own (i
     Passes-turn-over v w event (without_wait_of S.waits h.target) (caller ∷ eintr ∷ []) h.grants left told others differ conflict apart h.are
     h.passes (StandsIn-without (NotOf w) (OnlyAs w) v h.target S.waits differs stands) is)
     (cases_eq v.p h.target)
+Move-turn v w S taken event left told others lasts joined differ conflict own (bails h) stands is =
+    Passes-turn-over v w event (without_wait_of S.waits event.p) [] event.notes left told others differ conflict tt refl h.passes
+    (StandsIn-without (NotOf w) (OnlyAs w) v event.p S.waits (live_apart S taken (NotOf w) (OnlyAs w) v S.waits event.p lasts stands h.live) stands) is
 Move-turn v w S taken event left told others lasts joined differ conflict own (ends h) stands is =
     let apart = told_apart event.p event.n event.request h.target h.told (Answer w.p w.n replies.Ok) (λ e. own (cc, cc)) h.how in
     ⊎_elim

@@ -24,9 +24,9 @@ use Rattle.lock_manager.specs.declared.request.LkCmd.TheVariants.{GetLk, SetLk, 
 use Rattle.lock_manager.specs.declared.request.FlockOp.{FlockOp}
 use Rattle.lock_manager.specs.declared.request.FlockOp.TheVariants.{Sh, Ex, Un}
 use Rattle.lock_manager.specs.declared.request.Errno.{Errno}
-use Rattle.lock_manager.specs.declared.request.Errno.TheVariants.{EINTR}
+use Rattle.lock_manager.specs.declared.request.Errno.TheVariants.{EINTR, EINVAL}
 use Rattle.lock_manager.specs.declared.request.Request.{Request}
-use Rattle.lock_manager.specs.declared.request.Request.TheVariants.{OpenFile, Dup, DupTo, CloseFd, Seek, Resize, Lk, Flock, Fork, Exit, Signal, Kill}
+use Rattle.lock_manager.specs.declared.request.Request.TheVariants.{OpenFile, Dup, DupTo, CloseFd, Seek, Resize, Lk, Flock, Fork, Exit, Signal, Kill, Enter, Leave, Bail}
 use Rattle.lock_manager.specs.declared.request.Note.{Note}
 use Rattle.lock_manager.specs.declared.request.Note.TheVariants.{Answer, Waits}
 use Rattle.lock_manager.specs.declared.request.Reply.{Reply}
@@ -40,7 +40,8 @@ use Rattle.lock_manager.specs.DescriptorCalls.{with_released}
 use Rattle.lock_manager.specs.LockWords.{is_get, may_wait, wanted_mode, permits, wanted_lock}
 use Rattle.lock_manager.specs.LockCommands.{GetComesTo, LockComesTo, DescribedComesTo, RangeComesTo, ModeComesTo, CommandComesTo}
 use Rattle.lock_manager.specs.FlockCalls.{FlockComesTo, FlockOpComesTo, FlockModeComesTo, FlockTestComesTo, is_same_mode, wanted_flock}
-use Rattle.lock_manager.specs.ProcessCalls.{EndComesTo, SignalComesTo, KillOtherComesTo, KillComesTo}
+use Rattle.lock_manager.specs.Sections.{may_enter, may_leave, marked}
+use Rattle.lock_manager.specs.ProcessCalls.{EndComesTo, without_wait, SignalComesTo, KillOtherComesTo, KillComesTo}
 use Rattle.lock_manager.specs.Step.{ComesTo, Step}
 use Rattle.session_core.specs.QueuePolicy.{WouldWaitAs}
 use Rattle.session_core.proofs.tallies.OutcomeLaws.{cases_fact, cases_bool}
@@ -89,12 +90,18 @@ pub record Ends (waits : List Wait) (p n : ℕ) (request : Request) (notes : Lis
   pub are : notes ≡ told ++ grants
   pub passes : Passes (without_wait_of waits target) grants left
 
+-- a live process ends by its bail, which tells nothing
+pub record Bails (S : State) (p : ℕ) (notes : List Note) (left : List Wait) : Type 0 where
+  pub live : S.states p ≡ Live
+  pub passes : Passes (without_wait_of S.waits p) notes left
+
 -- the list of waits moves in one of these ways
 pub data WaitsMove (S : State) (p n : ℕ) (request : Request) (notes : List Note) (left : List Wait) : Type 0 where
   answers : Answers S.waits p n notes left → WaitsMove S p n request notes left
   joins : Joins S p n request notes left → WaitsMove S p n request notes left
   interrupts : Interrupts S.waits p n notes left → WaitsMove S p n request notes left
   ends : Ends S.waits p n request notes left → WaitsMove S p n request notes left
+  bails : Bails S p notes left → WaitsMove S p n request notes left
 
 -- and then by further grants
 WaitsMove-then : (S : State) (p n : ℕ) (request : Request) (told : List Note) (middle : List Wait) (grants : List Note) (left : List Wait)
@@ -276,7 +283,21 @@ comes_kill S p n target outcome is =
     comes_kill_other S p n target (S.states target) outcome (λ e. differs (sym e)) other)
     (cases_eq target p)
 
-module _ (rules : Rules) (processes : ℕ) (S : State) (p n : ℕ) (outcome : Outcome) (queue : rules.policy ≡ Queue) where
+-- enter and leave
+comes_allowed : (S : State) (p n : ℕ) (request : Request) (allowed : Bool) (outcome : Outcome)
+    → MatchBool allowed (outcome ≡ answered S p n replies.Ok) (outcome ≡ refused S p n EINVAL) → Comes S p n request outcome
+comes_allowed S p n request true outcome is = comes_answer S p n request outcome S replies.Ok refl is
+comes_allowed S p n request false outcome is = comes_refused S p n request outcome _ is
+
+-- a live process ends, or is answered
+comes_bail : (S : State) (p n : ℕ) (refused : Bool) (outcome : Outcome) → S.states p ≡ Live
+    → MatchBool refused (EndComesTo S p [] outcome) (outcome ≡ answered S p n replies.Ok) → Comes S p n Bail outcome
+comes_bail S p n true outcome live is =
+    let after : State = with_process (with_released (without_wait S p) is.1 p is.0) p Ended in
+    subst (λ (o : Outcome). Comes S p n Bail o) (sym is.3) (bails (record { live = live; passes = refl }))
+comes_bail S p n false outcome live is = comes_answer S p n Bail outcome S replies.Ok refl is
+
+module _ (rules : Rules) (processes : ℕ) (S : State) (p n : ℕ) (outcome : Outcome) (queue : rules.policy ≡ Queue) (live : S.states p ≡ Live) where
   -- whatever the request: one case for each that is served
   comes_request : (request : Request) → ComesTo rules processes S p n request outcome → Comes S p n request outcome
   comes_request (OpenFile file access) is =
@@ -299,6 +320,9 @@ module _ (rules : Rules) (processes : ℕ) (S : State) (p n : ℕ) (outcome : Ou
   comes_request Exit is = comes_end S p n p Exit [] outcome (inl (refl, inl refl, refl)) is
   comes_request (Signal target) is = comes_signal S p n target (S.states target) outcome is
   comes_request (Kill target) is = comes_kill S p n target outcome is
+  comes_request (Enter section visit) is = comes_allowed S p n (Enter section visit) (may_enter S.visits p section) outcome is
+  comes_request (Leave section) is = comes_allowed S p n (Leave section) (may_leave S.visits p section) outcome is
+  comes_request Bail is = comes_bail S p n (S.refused p) outcome live is
 
 -- each step moves the list so
 pub Step-moves : (rules : Rules) (processes : ℕ) (S : State) (p n : ℕ) (request : Request) (notes : List Note) (T : State)
@@ -306,5 +330,5 @@ pub Step-moves : (rules : Rules) (processes : ℕ) (S : State) (p n : ℕ) (requ
 Step-moves rules processes S p n request notes T queue step =
     subst (λ l. WaitsMove S p n request l T.waits) (sym step.are_notes)
     (WaitsMove-then S p n request step.outcome.told step.outcome.after.waits step.grants T.waits
-    (comes_request rules processes S p n step.outcome queue request step.comes_to)
-    (Settles-passes rules.policy step.outcome.after step.grants T queue step.settles))
+    (comes_request rules processes S p n step.outcome queue step.live request step.comes_to)
+    (Settles-passes rules.policy (marked S p request step.outcome) step.grants T queue step.settles))

@@ -1,5 +1,5 @@
 -- What fork, exit, signal and kill come to: a process begins to live, wakes or ends.
-use Rattle.std.proofs.Common.{arith, ℕ, ◌≡◌, ◌≢◌, ◌+◌, ◌⊎◌, inl, inr, refl, sym, ◌∙◌, ap, subst, true, false, ◌||◌, eq-eqb, length, List, [], ◌∷◌, Result, Ok, Err, MatchResult, ⊎_elim}
+use Rattle.std.proofs.Common.{arith, ℕ, ◌≡◌, ◌≢◌, ◌+◌, ◌⊎◌, inl, inr, refl, sym, ◌∙◌, ap, subst, Bool, true, false, ◌||◌, eq-eqb, length, List, [], ◌∷◌, Result, Ok, Err, MatchBool, MatchResult, ⊎_elim}
 use Rattle.std.proofs.lemmas.Grind.{common_steps}
 use Rattle.std.specs.Prelude.{◌==◌, if◌then◌else◌, IsFalse}
 use Rattle.fd_table.specs.declared.FdFault.{FdFault}
@@ -7,7 +7,7 @@ use Rattle.fd_table.specs.Descriptors.{Descriptors, SameDescriptors, with_child}
 use Rattle.fd_table.specs.Calls.{ForkGives, IsFreeProcess}
 use Rattle.lock_manager.specs.declared.request.ProcState.{ProcState}
 use Rattle.lock_manager.specs.declared.request.ProcState.TheVariants.{Unborn, Live, Waiting, Ended}
-use Rattle.lock_manager.specs.declared.request.Errno.TheVariants.{EINTR, ESRCH}
+use Rattle.lock_manager.specs.declared.request.Errno.TheVariants.{EINTR, ESRCH, EINVAL}
 use Rattle.lock_manager.specs.declared.request.Note.{Note}
 use Rattle.lock_manager.specs.declared.request.Note.TheVariants.{Answer}
 use Rattle.lock_manager.specs.declared.request.Reply.TheVariants as replies
@@ -142,6 +142,19 @@ module _ (processes : ℕ) (S : State) (taken counts : ℕ → ℕ) (p n : ℕ) 
   pub told_kill : (target : ℕ) → KillComesTo S p n target outcome → IsTold processes S taken counts p outcome
   told_kill target is =
       ⊎_elim (λ own. told_exit own) (λ other. told_kill_other target (S.states target) refl other) (cases_bool (target == p) is)
+
+module _ (processes : ℕ) (S : State) (taken counts : ℕ → ℕ) (p n : ℕ) (outcome : Outcome) (h : IsAtHand processes S taken counts p n) where
+  -- enter and leave: the process is answered or refused
+  pub told_allowed : (allowed : Bool) → MatchBool allowed (outcome ≡ answered S p n replies.Ok) (outcome ≡ refused S p n EINVAL)
+      → IsTold processes S taken counts p outcome
+  told_allowed true is = told_here processes S taken counts p n outcome h replies.Ok is
+  told_allowed false is = told_here processes S taken counts p n outcome h (replies.Err EINVAL) is
+
+  -- bail: an exit, or an answer
+  pub told_bail : (refused : Bool) → MatchBool refused (EndComesTo S p [] outcome) (outcome ≡ answered S p n replies.Ok)
+      → IsTold processes S taken counts p outcome
+  told_bail true is = told_exit processes S taken counts p n outcome h is
+  told_bail false is = told_here processes S taken counts p n outcome h replies.Ok is
 
 -- after the end of a process it has ended
 pub ended_by_end : (S : State) (p : ℕ) (told : List Note) (outcome : Outcome) → EndComesTo S p told outcome → IsEnded (outcome.after.states p)

@@ -5,7 +5,7 @@ use Rattle.std.specs.List.{Contains, AllByRecursion as Each}
 use Rattle.std.proofs.lemmas.Bool.{cases_eq}
 use Rattle.lock_manager.specs.declared.request.Rules.{Rules}
 use Rattle.lock_manager.specs.declared.request.Request.{Request}
-use Rattle.lock_manager.specs.declared.request.Request.TheVariants.{OpenFile, Dup, DupTo, CloseFd, Seek, Resize, Lk, Flock, Fork, Exit, Signal, Kill}
+use Rattle.lock_manager.specs.declared.request.Request.TheVariants.{OpenFile, Dup, DupTo, CloseFd, Seek, Resize, Lk, Flock, Fork, Exit, Signal, Kill, Enter, Leave, Bail}
 use Rattle.lock_manager.specs.declared.request.Note.{Note}
 use Rattle.lock_manager.specs.declared.request.Note.TheVariants.{Answer, Waits}
 use Rattle.lock_manager.specs.declared.request.Errno.{Errno}
@@ -15,17 +15,18 @@ use Rattle.lock_manager.specs.declared.request.Reply.TheVariants as replies
 use Rattle.lock_manager.specs.State.{State}
 use Rattle.lock_manager.specs.Outcomes.{Outcome, refused}
 use Rattle.lock_manager.specs.ProcessCalls.{KillComesTo}
+use Rattle.lock_manager.specs.Sections.{may_enter, may_leave, marked, BailComesTo}
 use Rattle.lock_manager.specs.Step.{ComesTo, Step}
 use Rattle.session_core.specs.Event.{Event}
 use Rattle.session_core.specs.Runs.{IsStep}
 use Rattle.session_core.specs.Headline.{IsEnded, EndsProcess}
-use Rattle.session_core.proofs.tallies.Tally.{None-contains, numbers_in, AreCountedFrom, TallyAt, Tallies, Tells, Tells-then, one_more}
+use Rattle.session_core.proofs.tallies.Tally.{Contains-here, None-contains, numbers_in, AreCountedFrom, TallyAt, Tallies, Tells, Tells-then, one_more}
 use Rattle.session_core.proofs.tallies.Moves.{Settles-tells}
-use Rattle.session_core.proofs.tallies.OutcomeLaws.{IsAtHand, IsTold}
+use Rattle.session_core.proofs.tallies.OutcomeLaws.{IsAtHand, IsTold, cases_bool}
 use Rattle.session_core.proofs.tallies.DescriptorLaws.{told_open, told_dup, told_dup_to, told_close, told_seek, told_resize}
 use Rattle.session_core.proofs.tallies.LockLaws.{told_lock}
 use Rattle.session_core.proofs.tallies.FlockLaws.{told_flock}
-use Rattle.session_core.proofs.tallies.ProcessLaws.{told_fork, told_exit, told_signal, told_kill, ended_by_end, ended_by_own_kill, killed_or_refused}
+use Rattle.session_core.proofs.tallies.ProcessLaws.{told_fork, told_exit, told_signal, told_kill, told_allowed, told_bail, ended_by_end, ended_by_own_kill, killed_or_refused}
 
 -- whatever the request, it is told what it should be: one case for each request that is served
 module _ (rules : Rules) (processes : ℕ) (S : State) (taken counts : ℕ → ℕ) (p n : ℕ) (outcome : Outcome) (h : IsAtHand processes S taken counts p n) where
@@ -42,6 +43,9 @@ module _ (rules : Rules) (processes : ℕ) (S : State) (taken counts : ℕ → �
   told_request Exit is = told_exit processes S taken counts p n outcome h is
   told_request (Signal target) is = told_signal processes S taken counts p n outcome h target (S.states target) is
   told_request (Kill target) is = told_kill processes S taken counts p n outcome h target is
+  told_request (Enter section visit) is = told_allowed processes S taken counts p n outcome h (may_enter S.visits p section) is
+  told_request (Leave section) is = told_allowed processes S taken counts p n outcome h (may_leave S.visits p section) is
+  told_request Bail is = told_bail processes S taken counts p n outcome h (S.refused p) is
 
 -- what the request of a step comes to tells what it should
 request_tells : (rules : Rules) (processes : ℕ) (S : State) (taken counts : ℕ → ℕ) (p n : ℕ) (request : Request) (notes : List Note)
@@ -50,6 +54,17 @@ request_tells : (rules : Rules) (processes : ℕ) (S : State) (taken counts : �
 request_tells rules processes S taken counts p n request notes T t number step =
     told_request rules processes S taken counts p n step.outcome (record { tallies = t; live = step.live; number = number }) request step.comes_to
 
+-- the tallies are of none of the marks
+marked_tallies : (processes : ℕ) (S : State) (p : ℕ) (request : Request) (outcome : Outcome) (taken counts : ℕ → ℕ)
+    → Tallies processes outcome.after taken counts → Tallies processes (marked S p request outcome) taken counts
+marked_tallies processes S p request outcome taken counts t =
+    record {
+      born = λ q up. let b = t.born q up in record { low = b.low; high = b.high; alive = b.alive };
+      waits = t.waits;
+      apart = t.apart;
+      tally = t.tally;
+    }
+
 -- and so do the grants after it
 grants_tell : (rules : Rules) (processes : ℕ) (S : State) (taken counts : ℕ → ℕ) (p n : ℕ) (request : Request) (notes : List Note)
     (T : State) → Tallies processes S taken counts → n ≡ taken p + 1 → (step : Step rules processes S p n request notes T)
@@ -57,7 +72,9 @@ grants_tell : (rules : Rules) (processes : ℕ) (S : State) (taken counts : ℕ 
 grants_tell rules processes S taken counts p n request notes T t number step =
     let told = step.outcome.told in
     let first = request_tells rules processes S taken counts p n request notes T t number step in
-    Settles-tells processes rules.policy step.outcome.after step.grants T (one_more p taken) (λ q. counts q + length (numbers_in q told)) first.tallies step.settles
+    let counts' : ℕ → ℕ = λ q. counts q + length (numbers_in q told) in
+    Settles-tells processes rules.policy (marked S p request step.outcome) step.grants T (one_more p taken) counts'
+    (marked_tallies processes S p request step.outcome (one_more p taken) counts' first.tallies) step.settles
 
 -- each step tells what it should
 pub Step-tells : (rules : Rules) (processes : ℕ) (S : State) (taken counts : ℕ → ℕ) (p n : ℕ) (request : Request) (notes : List Note)
@@ -100,7 +117,7 @@ outcome_ends rules processes S taken counts event T t number step q (inl exit) =
     let comes = step.comes_to in grind (arith, common_steps, ended_by_end)
 outcome_ends rules processes S taken counts event T t number step q (inr (inl kill)) =
     let comes = step.comes_to in grind (arith, common_steps, ended_by_own_kill)
-outcome_ends rules processes S taken counts event T t number step q (inr (inr kill)) =
+outcome_ends rules processes S taken counts event T t number step q (inr (inr (inl kill))) =
     let is : KillComesTo S event.p event.n q step.outcome =
     subst (λ request. ComesTo rules processes S event.p event.n request step.outcome) kill.1 step.comes_to in
     ⊎_elim (λ ended. ended)
@@ -108,6 +125,17 @@ outcome_ends rules processes S taken counts event T t number step q (inr (inr ki
     absurd
     (refused_not_done rules processes S taken counts event.p event.n event.request event.notes T ESRCH t number step refusal kill.2))
     (killed_or_refused S event.p event.n q step.outcome kill.0 is)
+outcome_ends rules processes S taken counts event T t number step q (inr (inr (inr bail))) =
+    let is : BailComesTo S event.p event.n step.outcome =
+    subst (λ request. ComesTo rules processes S event.p event.n request step.outcome) bail.1 step.comes_to in
+    let ended : IsEnded (step.outcome.after.states event.p) =
+    ⊎_elim (λ ends. ended_by_end S event.p [] step.outcome ends)
+    (λ done.
+    absurd (bail.2 (subst (λ l. Contains l (Answer event.p event.n replies.Ok)) (sym step.are_notes)
+    (subst (λ (o : Outcome). Contains (o.told ++ step.grants) (Answer event.p event.n replies.Ok)) (sym done)
+    (Contains-here (Answer event.p event.n replies.Ok) (Answer event.p event.n replies.Ok) step.grants refl)))))
+    (cases_bool (S.refused event.p) is) in
+    subst (λ r. IsEnded (step.outcome.after.states r)) bail.0 ended
 
 -- after the step that ends a process it has ended
 pub Step-ends : (rules : Rules) (processes : ℕ) (S : State) (taken counts : ℕ → ℕ) (event : Event) (T : State)

@@ -37,6 +37,10 @@ TallyAt Live taken answered = answered ≡ taken
 TallyAt Waiting taken answered = taken ≡ answered + 1
 TallyAt Ended taken answered = (taken ≡ answered + 1) ⊎ (taken ≡ answered)
 
+-- the first one is among them
+pub Contains-here : {X : Type 0} (x y : X) (xs : List X) → x ≡ y → Contains (x ∷ xs) y
+Contains-here x y xs same = (0, (let n = length xs in omega arith), same)
+
 -- the process waits, and with the last request that was taken of it
 pub record IsLastTaken (states : ℕ → ProcState) (taken : ℕ → ℕ) (wait : Wait) : Type 0 where
   pub waiting : IsWaiting (states wait.p)

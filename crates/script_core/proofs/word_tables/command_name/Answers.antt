@@ -24,5 +24,8 @@ returns-in_default c =
       not_named (codes "signal") word not.not-signal,
       not_named (codes "kill") word not.not-kill,
       not_named (codes "exit") word not.not-exit,
+      not_named (codes "enter") word not.not-enter,
+      not_named (codes "leave") word not.not-leave,
+      not_named (codes "bail") word not.not-bail,
     )
     (λ limits. refl)

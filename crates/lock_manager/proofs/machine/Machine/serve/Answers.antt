@@ -25,4 +25,4 @@ pub returns-in-Fork-clause-told : goal.returns-in-Fork-clause-told
 returns-in-Fork-clause-told c = grind (arith, common_steps, told_by)
 
 pub returns-in-Exit-clause-told : goal.returns-in-Exit-clause-told
-returns-in-Exit-clause-told c = rw (c.in-Exit.is, c.requires.empty) (c.end.ensures.ends [])
+returns-in-Exit-clause-told c = rw (c.in-Exit.is, c.requires.empty) (λ S h are. c.end.ensures.ends [] S h)

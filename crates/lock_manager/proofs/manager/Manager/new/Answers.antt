@@ -1,11 +1,13 @@
 use Rattle.std.proofs.Common.{arith}
 use Rattle.std.proofs.lemmas.Grind.{common_steps}
 use Rattle.lock_manager.specs.State.{opening_state}
-use Rattle.lock_manager.proofs.calls.ManagerLemmas.{safe_machine, stands_for}
+use Rattle.lock_manager.proofs.calls.ManagerLemmas.{safe_machine, stands_for, opening_says}
 use Rattle.lock_manager.proofs.manager.Manager.new.Goals as goal
 
 pub invariant_of-result : goal.invariant_of-result
 invariant_of-result c = grind (arith, common_steps, safe_machine)
 
 pub returns-clause-opening : goal.returns-clause-opening
-returns-clause-opening c = stands_for _ opening_state c.in_ok-machine.ensures.opening
+returns-clause-opening c =
+    stands_for _ opening_state c.in_ok-machine.ensures.opening
+    (opening_says _ c.in_ok-sections.ensures.nobody)
