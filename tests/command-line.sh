@@ -137,6 +137,13 @@ check 0 state.sixth empty state --state=6
 check 0 state.sixth empty empty --explain state --state 6
 check 0 state.all empty empty --state all state
 check 0 sizes.fifth empty empty --state 5 sizes
+# Sections: with whom a process is in one, who is in which, and what goes with a process that bails.
+check 0 sections.out empty empty --explain sections
+check 0 sections.sixth empty sections --state 6
+check 0 sections.changes empty empty --state changes sections
+check 3 sections.out empty empty --explain --fail-on together sections
+check 0 sections.out empty empty --explain --fail-on dropped,busy,killed sections
+check 0 empty empty sections.changes --check
 # A picture of the run, by time.
 check 0 state.drawn empty empty --timeline state
 check 0 state.drawn empty state --timeline
@@ -190,13 +197,13 @@ check 2 empty state-empty.err empty state --state
 # What a run shows that is to fail: the output is the same, and the status is 3. By its last event, by one before, and by its end.
 check 3 deadlock.out empty empty --fail-on deadlock deadlock
 check 3 deadlock.out empty deadlock --fail-on=busy,deadlock -
-check 0 deadlock.out empty empty deadlock --fail-on stuck,dropped,lost,busy,interrupted,killed,unborn,badfd
+check 0 deadlock.out empty empty deadlock --fail-on stuck,together,dropped,lost,busy,interrupted,killed,unborn,badfd
 for finding in dropped lost busy killed unborn; do check 3 explained.out empty explained --explain --fail-on "$finding"; done
 check 0 explained.out empty empty --explain --fail-on deadlock,stuck,interrupted,badfd explained
 check 3 crossed.out empty empty --fail-on badfd,stuck crossed
 check 0 crossed.out empty empty --fail-on deadlock crossed
 check 3 unopened.out empty empty --fail-on badfd unopened
-check 0 unopened.out empty empty --fail-on deadlock,stuck,dropped,lost,busy,interrupted,killed,unborn unopened
+check 0 unopened.out empty empty --fail-on deadlock,stuck,together,dropped,lost,busy,interrupted,killed,unborn unopened
 check 0 handed-over.state empty handed-over --fail-on dropped,badfd --state 4
 check 0 empty.out empty empty --fail-on unborn,badfd
 check 2 empty faulty.err empty --fail-on busy faulty

@@ -14,6 +14,7 @@ LARGEST = 2**63 - 1
 Note = tuple[int, int, str]
 LOCK_COMMANDS = ("getlk", "setlk", "setlkw", "ogetlk", "osetlk", "osetlkw")
 MODES = {"sh": "r", "ex": "w", "r": "r", "w": "w"}
+TOLD_ERRORS = ("EBADF", "EINVAL", "EOVERFLOW", "EAGAIN", "EDEADLK", "EINTR", "EMFILE", "ESRCH")
 
 
 class Refusal(Exception):
@@ -119,13 +120,16 @@ class Manager:
         self.runs: dict[tuple[tuple[int, str], tuple[str, int]], tuple[tuple[int, int, str], ...]] = {}
         self.waits: list[Wait] = []
         self.taken: dict[int, int] = {}
+        # Who is in which section, and whether by a shared visit; and whose last answer was an error.
+        self.visits: dict[tuple[int, str], bool] = {}
+        self.refused: set[int] = set()
 
     def copy(self) -> Manager:
         other = Manager.__new__(Manager)
         other.__dict__.update(self.__dict__)
         other.tables = {process: dict(table) for process, table in self.tables.items()}
         other.descriptions = {number: Description(**vars(it)) for number, it in self.descriptions.items()}
-        for name in "states", "sizes", "runs", "waits", "taken":
+        for name in "states", "sizes", "runs", "waits", "taken", "visits", "refused":
             setattr(other, name, getattr(self, name).copy())
         return other
 
@@ -219,6 +223,7 @@ class Manager:
         self.end_wait(process)
         for fd in list(self.tables[process]):
             self.drop(process, fd)
+        self.visits = {(of, section): is_shared for (of, section), is_shared in self.visits.items() if of != process}
         self.states[process] = "ended"
 
     # What each request does: what its caller is told, None where that is nothing. `behind` is what others are told at once.
@@ -234,7 +239,11 @@ class Manager:
                 told = getattr(self, words[0])(process, number, *words[1:])
         except Refusal as refusal:
             told = str(refusal)
-        return ([(process, number, told)] if told else []) + self.behind + self.settle()
+        notes = ([(process, number, told)] if told else []) + self.behind + self.settle()
+        for of, _, answer in notes:
+            if answer != "waits":
+                (self.refused.add if answer in TOLD_ERRORS else self.refused.discard)(of)
+        return notes
 
     def lowest(self, process: int) -> int:
         free = next(fd for fd in range(self.most + 1) if fd not in self.tables[process])
@@ -307,6 +316,24 @@ class Manager:
             raise Refusal("ESRCH")
         self.end(int(target))
         return None if int(target) == process else "ok"
+
+    def enter(self, process: int, _: int, section: str, shared: str = "") -> str:
+        if (process, section) in self.visits:
+            raise Refusal("EINVAL")
+        self.visits[process, section] = shared == "sh"
+        return "ok"
+
+    def leave(self, process: int, _: int, section: str) -> str:
+        if (process, section) not in self.visits:
+            raise Refusal("EINVAL")
+        del self.visits[process, section]
+        return "ok"
+
+    def bail(self, process: int, _: int) -> Optional[str]:
+        if process not in self.refused:
+            return "ok"
+        self.end(process)
+        return None
 
     def flock(self, process: int, number: int, fd: str, operation: str, nb: str = "") -> str:
         description, it = self.description_of(process, fd)

@@ -48,7 +48,7 @@ for script in "$samples"/*.lock; do
 done
 for explored in "$samples"/*.explored; do
     status=0
-    ! grep -Eq '^(deadlock|stuck|dropped|lost|unborn) possible' "$explored" || status=3
+    ! grep -Eq '^(deadlock|stuck|together|dropped|lost|unborn) possible' "$explored" || status=3
     ended=0
     "$program" --explore "${explored%.explored}.lock" > "$work/output" 2> "$work/errors" || ended=$?
     if [ "$ended" -eq "$status" ] && [ ! -s "$work/errors" ] && cmp -s "$explored" "$work/output"; then

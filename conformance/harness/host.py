@@ -34,7 +34,8 @@ class Timing:
 
 @dataclass
 class Process:
-    """A process of the script: its channel at the host and at the agent, its mail, and what it hasn't answered yet."""
+    """A process of the script: its channel at the host and at the agent, its mail, what it hasn't answered yet, in which sections it is, and whether
+    its last answer was an error."""
 
     number: int
     channel: socket.socket
@@ -44,6 +45,8 @@ class Process:
     mail: deque[Request] = field(default_factory=deque)
     taken: int = 0
     unanswered: Optional[Request] = None
+    sections: set[str] = field(default_factory=set)
+    refused: bool = False
 
     @property
     def able(self) -> bool:
@@ -52,6 +55,18 @@ class Process:
     @property
     def ticket(self) -> Ticket:
         return self.number, self.taken
+
+    def visit(self, section: str, enters: bool) -> str:
+        """Enters a section, or leaves it; the answer."""
+        if (section in self.sections) == enters:
+            return "EINVAL"
+        self.sections ^= {section}
+        return "ok"
+
+    def heed(self, note: Optional[str]) -> None:
+        """Heeds an answer that it was given, if it is one."""
+        if note not in (None, "waits"):
+            self.refused = str(note).startswith("E")
 
 
 def has_ended(pid: int) -> bool:
@@ -141,15 +156,20 @@ class Host:
         process.taken += 1
         event = Event(process.ticket, request)
         self.journal.append(event)
-        event.note = self.answer_of_language(request)
+        event.note = self.answer_of_language(process, request)
         if event.note is None:
             process.unanswered = request
             process.channel.send("\0".join(self.message(request)).encode())
             self.await_effects(process, request)
             self.tell(event, process)
+        process.heed(event.note)
 
-    def answer_of_language(self, request: Request) -> Optional[str]:
-        """The answer where no system is asked: the numbers of processes are the language's. A pid that has ended may be anyone's."""
+    def answer_of_language(self, process: Process, request: Request) -> Optional[str]:
+        """The answer where no system is asked: sections and the numbers of processes are the language's. A pid that has ended may be anyone's."""
+        if request.command in ("enter", "leave"):
+            return process.visit(request.words[1], request.command == "enter")
+        if request.command == "bail":
+            return None if process.refused else "ok"
         if request.command == "fork":
             child = self.processes.get(int(request.words[1]))
             return "EAGAIN" if child is None or child.pid is not None else None
@@ -170,11 +190,11 @@ class Host:
             return ["kill", str(self.processes[int(arguments[0])].pid), str(int(number))]
         if request.lock_call:
             return ["lock", command, *arguments[:5], str(request.lock_call.pid)]
-        return [command, *arguments]
+        return ["exit"] if command == "bail" else [command, *arguments]
 
     def await_effects(self, process: Process, request: Request) -> None:
         """Waits until the request is answered or waits, whom it ends has ended, and no wait is about to end."""
-        ends = {"exit": process.number}.get(request.command)
+        ends = process.number if request.command in ("exit", "bail") else None
         if request.command == "kill":
             ends = int(request.words[1])
         if request.command == "kill" and ends != process.number:
@@ -258,6 +278,7 @@ class Host:
             event.note = "waits"
         for number, note in sorted(self.answers.items()):
             event.grants[self.processes[number].ticket] = note
+            self.processes[number].heed(note)
         self.answers.clear()
 
     def describe_hang(self, looks: dict[int, Optional[str]]) -> str:

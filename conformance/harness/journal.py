@@ -20,6 +20,15 @@ class Event:
     note: Optional[str] = None
     grants: dict[Ticket, str] = field(default_factory=dict)
 
+    @property
+    def ends(self) -> Optional[int]:
+        """The process that the event ended, if it did: its own, which isn't answered, or the one that it killed."""
+        if self.request.command in ("exit", "bail") and self.note is None:
+            return self.request.process
+        if self.request.command == "kill" and self.note in (None, "ok"):
+            return int(self.request.words[1])
+        return None
+
     def __str__(self) -> str:
         head = f"{self.ticket[0]}#{self.ticket[1]} {' '.join(self.request.words)}"
         notes = [(self.ticket, self.note)] if self.note is not None else []

@@ -309,8 +309,8 @@ def askers(situation: Situation, owner: str) -> set[str]:
         description = descriptors.of(event.request)
         if event.request.command in ("osetlk", "osetlkw") and description is not None and description.owner == owner:
             found.add(str(event.request.process))
-        if event.request.command == "exit" or (event.request.command == "kill" and event.note == "ok"):
-            ended.add(str(event.request.process) if event.request.command == "exit" else event.request.words[1])
+        if event.ends is not None:
+            ended.add(str(event.ends))
         descriptors.follow(event)
     return found | ({"pid:0"} if found & ended else set())
 

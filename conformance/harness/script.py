@@ -7,6 +7,8 @@ from typing import Iterable, Optional
 
 LARGEST_OFFSET = 2**63 - 1
 LOCK_COMMANDS = ("getlk", "setlk", "setlkw", "ogetlk", "osetlk", "osetlkw")
+# What no system is asked.
+SECTION_COMMANDS = ("enter", "leave", "bail")
 HEADERS = ("policy", "limits")
 
 

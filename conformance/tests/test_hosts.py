@@ -61,6 +61,17 @@ class Hosts(RunnerTest):
         verdict = self.verdict("1 open 0 rw", "1 close 256", "1 dup 257", "1 dup2 0 258", "1 setlk 0 w set 0 1")
         self.assertEqual(verdict.kind, AS_DEFINED)
 
+    def test_who_was_refused_bails(self) -> None:
+        """No system is asked about sections. A process ends at a bail behind an error, which drops its lock, and at no other."""
+        verdict = self.verdict("1 open 0 rw", "1 fork 2", "1 setlk 0 w set 0 1", "1 enter 0", "1 bail", "2 setlk 0 w set 0 1", "2 enter 0 sh", "2 bail",
+                               "2 setlk 0 w set 0 1", "2 bail", "2 enter 1", "1 enter 0 sh", "1 bail", "1 setlk 0 u set 0 0")
+        self.assertEqual((verdict.kind, verdict.reason), (AS_DEFINED, ""))
+
+    def test_who_was_told_ok_doesnt_bail(self) -> None:
+        """The lock of process 1 is left, and process 2 is refused, wherever a visit was refused."""
+        verdict = self.verdict("1 open 0 rw", "1 fork 2", "1 enter 0", "1 enter 0", "1 setlk 0 w set 0 1", "1 bail", "2 setlk 0 w set 0 1", "2 bail")
+        self.assertEqual((verdict.kind, verdict.reason), (AS_DEFINED, ""))
+
     def test_a_hang_is_told_with_its_pid(self) -> None:
         self.lying("do_seek", lambda truth, *words: time.sleep(60))
         verdict = self.verdict("1 open 0 rw", "1 setlk 0 w set 0 1", "1 seek 0 5", limit=HANG_SECONDS)

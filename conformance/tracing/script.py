@@ -8,7 +8,7 @@ from typing import Optional
 from harness.descriptors import Descriptors
 from harness.journal import Event, Ticket
 from harness.replay import Lockreplay
-from harness.script import Request, Script
+from harness.script import SECTION_COMMANDS, Request, Script
 from tracing.log import Call, Log
 
 COMMANDS = {"getlk": "F_GETLK", "setlk": "F_SETLK", "setlkw": "F_SETLKW", "ogetlk": "F_OFD_GETLK", "osetlk": "F_OFD_SETLK", "osetlkw": "F_OFD_SETLKW"}
@@ -34,11 +34,10 @@ class ScriptLog:
         """Takes in an event: its call, the ends of processes, and the waits that ended with it."""
         request = event.request
         call = Call(request.process, self.lines[event.ticket], None, *self.words(event), begin=place)
-        if request.command in ("exit", "kill") and event.note in (None, "ok"):
-            ended = request.process if request.command == "exit" else int(request.words[1])
-            what = "exited" if request.command == "exit" else f"killed by process {request.process}"
-            self.log.calls.append(Call(ended, call.line, None, "ended", what, begin=place, end=place, value=0))
-        else:
+        if event.ends is not None:
+            what = f"killed by process {request.process}" if request.command == "kill" else "exited"
+            self.log.calls.append(Call(event.ends, call.line, None, "ended", what, begin=place, end=place, value=0))
+        elif request.command not in SECTION_COMMANDS:
             self.log.calls.append(call)
         if event.note == "waits":
             self.waiting[event.ticket] = call
