@@ -3,7 +3,7 @@ use Rattle.std.proofs.Common.{arith, ◌≡◌, ℕ, zero, suc, ◌*◌, ◌%◌
 use Rattle.std.specs.Prelude.{bit_and, bit_or}
 use Rattle.std.specs.Int.{bit_at, bit_not}
 use Rattle.std.proofs.lemmas.Grind.{common_steps}
-use Rattle.std.proofs.lemmas.Bool.{cases_eq, cases_lt, cases_Bool, eq-eqb, eqb-true}
+use Rattle.std.proofs.lemmas.Bool.{cases_eq, cases_lt, cases_Bool, eq-eqb}
 use Rattle.std.proofs.lemmas.Option.{slice_get_past, slice_get-get_or}
 use Rattle.std.proofs.Math.Seq.{take-suc}
 use Rattle.std.proofs.lemmas.Bool.Decides.{eqb_tells, nat_tests}
@@ -67,21 +67,6 @@ pub seat_at : (sections : Sections) (place p : ℕ) → p ≡ place + 1 → seat
 unfolding seat_in
 seat_at sections place zero is = absurd (omega arith)
 seat_at sections place (suc at) is = let same : at ≡ place = omega arith in ap (λ (x : ℕ). get_or sections.seats.items x no_seat) same
-
--- what is seen of words that are replaced at one place, where those are seen as these, or as gone
-by_place : {X : Type 0} (view : Seat → X) (here ends : Bool) (result was : Seat) (gone : X) → (here ≡ true → view result ≡ (if ends then gone else view was))
-    → view (if here then result else was) ≡ (if here && ends then gone else view was)
-by_place view true ends result was gone h = h refl
-by_place view false ends result was gone h = refl
-
-pub stood : {X : Type 0} (view : Seat → X) (old new : Sections) (place : ℕ) (result : Seat) (ends : Bool) (gone : X)
-    → ((q : ℕ) → seat_in new q ≡ (if q == place + 1 then result else seat_in old q))
-    → view result ≡ (if ends then gone else view (seat_in old (place + 1))) → (q : ℕ)
-    → view (seat_in new q) ≡ (if (q == place + 1) && ends then gone else view (seat_in old q))
-stood view old new place result ends gone puts seen q =
-    ap view (puts q)
-    ∙ by_place view (q == place + 1) ends result (seat_in old q) gone
-    (λ here. seen ∙ ap (λ (x : ℕ). if ends then gone else view (seat_in old x)) (sym (eqb-true q (place + 1) here)))
 
 -- of all processes from 0 on
 pub stand_none : {X : Type 0} (was : ℕ → X) (ends : ℕ → Bool) (gone : X) → (ends 0 ≡ true → was 0 ≡ gone) → (q : ℕ)
@@ -152,10 +137,6 @@ heard_next told index d q was before last within so_far next =
     (let step : index + 1 ≡ suc index = omega arith in ap (λ (n : ℕ). take n told) step) ∙ take-suc told index d within in
     next ∙ ap (λ (b : Bool). last_refused (get_or told index d ∷ []) q b) so_far
     ∙ sym (heard_behind (take index told) (get_or told index d ∷ []) q was) ∙ ap (λ (notes : List Note). last_refused notes q was) (sym more)
-
-pub turned_live : (live refused : Bool) → (if live then refused else false) ≡ (if not live then false else refused)
-turned_live true refused = refl
-turned_live false refused = refl
 
 -- who is gone was told no error last
 pub gone_and : (live refused : Bool) → (if not live then false else refused) ≡ (live && refused)

@@ -16,7 +16,7 @@ pub fn empty_books(alloc: Global) -> Result<Vec<Book>, Memory>
     ensures len { IfOk result (λ books. vec_len books ≡ FILES) }
     ensures empty { IfOk result (λ books. All HoldsNothing books.items) }
 {
-    let mut books = Vec::new(alloc);
+    let mut books = Vec::with_capacity(alloc, usize::from(FILES))?;
     for _ in 0..FILES {
         books.push(Book::new(alloc))?;
     }

@@ -1,5 +1,5 @@
 //! The sections of one process, in two words, and whether its last answer was an error (this project's choice).
-ghost use Rattle.std.specs.Prelude.{ℕ, ◌≡◌, ◌<◌, ◌==◌, ◌||◌, if◌then◌else◌, Some, None, false};
+ghost use Rattle.std.specs.Prelude.{ℕ, ◌≡◌, ◌<◌, ◌==◌, ◌||◌, if◌then◌else◌, Some, None, false, IsTrue};
 ghost use Rattle.lock_manager.specs.declared.request.TheConstants.{SECTIONS};
 ghost use Rattle.lock_manager.specs.SeatView.{has_section, visit_of, no_seat};
 ghost use Rattle.lock_manager.specs.Sections.{has_ended, is_live};
@@ -92,6 +92,19 @@ impl Seat {
         Seat {
             refused: is_error,
             ..self
+        }
+    }
+
+    /// Whether it is the same for a process that stands so.
+    #[tactic(auto, using(crate::proofs::SectionLemmas::no_visit))]
+    pub fn is_standing(self, state: ProcState) -> bool
+        ensures visits { IsTrue result → (section : ℕ) → visit_of self section ≡ (if has_ended state then None else visit_of self section) }
+        ensures refused { IsTrue result → self.refused ≡ (if is_live state then self.refused else false) }
+    {
+        match state {
+            ProcState::Live => true,
+            ProcState::Unborn | ProcState::Waiting => !self.refused,
+            ProcState::Ended => self == Seat::empty(),
         }
     }
 

@@ -179,7 +179,11 @@ impl Sections {
         ensures refused { (q : ℕ) → refused_in self.new q ≡ (if (q == place + 1) && not (is_live state) then false else refused_in self.old q) }
         ensures all { vec_len self.new.seats ≡ vec_len self.old.seats }
     {
-        self.put(place, self.seat_at(place).standing(state));
+        let seat = self.seat_at(place);
+        // An event leaves most as they were.
+        if !seat.is_standing(state) {
+            self.put(place, seat.standing(state));
+        }
     }
 
     /// The words at this place.
