@@ -1,0 +1,57 @@
+//! Items with the order in which they came, and what is kept of many.
+ghost use Rattle.std.specs.Prelude.{◌≡◌, ◌<◌, ◌^◌, length, ◌==◌};
+ghost use Rattle.std.specs.Bool.{nat_le};
+ghost use Rattle.arrival_list.specs.Arrivals.{items_of, is_from, Tells};
+
+use summary_tree::{Cut, Summary};
+
+/// An item, and its arrival: those that came later have greater ones.
+#[derive(Clone, Copy)]
+pub(crate) struct Arrived<T: Copy> {
+    pub(crate) item: T,
+    pub(crate) arrival: u64,
+}
+
+/// How many items there are, and what else is kept of them.
+#[derive(Clone, Copy)]
+pub(crate) struct Counted<S: Copy> {
+    pub(crate) count: u64,
+    pub(crate) summary: S,
+}
+
+impl<T: Copy, S: Summary<T> + Copy> Summary<Arrived<T>> for Counted<S> {
+    ghost tells = { Tells S.tells };
+
+    fn none() -> Counted<S> {
+        Counted {
+            count: 0,
+            summary: S::none(),
+        }
+    }
+
+    fn one(arrived: &Arrived<T>) -> Counted<S> {
+        Counted {
+            count: 1,
+            summary: S::one(&arrived.item),
+        }
+    }
+
+    fn join(self, more: Counted<S>) -> Counted<S> {
+        Counted {
+            count: self.count.saturating_add(more.count),
+            summary: self.summary.join(more.summary),
+        }
+    }
+}
+
+/// The place of the item with this arrival.
+#[derive(Clone, Copy)]
+pub(crate) struct From(pub(crate) u64);
+
+impl<T: Copy> Cut<Arrived<T>> for From {
+    ghost is_behind = { λ cut arrived. is_from cut.0 arrived };
+
+    fn is_behind(&self, arrived: &Arrived<T>) -> bool {
+        self.0 <= arrived.arrival
+    }
+}

@@ -1,0 +1,167 @@
+//! A list of numbers against a vector that is searched from its front.
+ghost use Rattle.std.specs.Prelude.{true, false, ◌≡◌};
+ghost use Rattle.std.specs.Bool.{nat_le};
+
+use arrival_list::ArrivalList;
+use std::alloc::Global;
+use std::process::Abort;
+use std::test::Fail;
+use summary_tree::{Query, Summary, Walk};
+
+/// The greatest number.
+#[derive(Clone, Copy)]
+struct Greatest(u64);
+
+impl Summary<u64> for Greatest {
+    ghost tells = { λ _ _. Unit {0} };
+
+    fn none() -> Greatest {
+        Greatest(0)
+    }
+
+    fn one(number: &u64) -> Greatest {
+        Greatest(*number)
+    }
+
+    fn join(self, more: Greatest) -> Greatest {
+        Greatest(self.0.max(more.0))
+    }
+}
+
+/// Numbers from this one on. What is told of many isn't proved here, so each is looked at.
+#[derive(Clone, Copy)]
+struct From(u64);
+
+impl Query<u64, Greatest> for From {
+    ghost hits = { λ query number. nat_le query.0 number };
+
+    fn hits(&self, number: &u64) -> bool {
+        self.0 <= *number
+    }
+
+    fn may_hit(&self, _greatest: &Greatest) -> bool {
+        true
+    }
+}
+
+/// All numbers, as the digits of one.
+#[derive(Clone, Copy)]
+struct Digits;
+
+impl Walk<u64, Greatest, u64> for Digits {
+    ghost gathers = { λ _ _ _. Unit {0} };
+
+    fn see(&self, found: &mut u64, number: &u64) {
+        *found = found.wrapping_mul(10).wrapping_add(*number);
+    }
+
+    fn see_all(&self, _found: &mut u64, _greatest: &Greatest) -> bool {
+        false
+    }
+}
+
+/// The next number of a sequence that looks random.
+fn next(seed: u64) -> u64 {
+    seed.wrapping_mul(6364136223846793005)
+        .wrapping_add(1442695040888963407)
+}
+
+/// A list and a vector with the same numbers.
+#[derive(Drop)]
+struct Both {
+    list: ArrivalList<u64, Greatest>,
+    plain: Vec<u64>,
+}
+
+impl Both {
+    fn new(alloc: Global) -> Both {
+        Both {
+            list: ArrivalList::new(alloc),
+            plain: Vec::new(alloc),
+        }
+    }
+
+    fn push(&mut self, number: u64) -> Result<(), Fail> {
+        self.list.reserve(1)?;
+        self.list.push(number);
+        self.plain.push(number)?;
+        Ok(())
+    }
+
+    /// Takes out the number at a place, where there is one.
+    fn take(&mut self, rt: &impl Abort, place: u64) {
+        let taken = self.list.take(place);
+        if (place as usize) < self.plain.len() {
+            assert_eq!(rt; taken, Some(self.plain.remove(place as usize)));
+        } else {
+            assert_eq!(rt; taken, None);
+        }
+    }
+
+    /// What is asked of both is the same.
+    fn compare(&self, rt: &impl Abort, from: u64, least: u64) {
+        assert_eq!(rt; self.list.len(), self.plain.len() as u64);
+        assert_eq!(rt; self.list.is_empty(), self.plain.is_empty());
+        let mut first = None;
+        let mut count = 0u64;
+        for (place, number) in self.plain.iter().enumerate() {
+            if least <= *number {
+                count = count.wrapping_add(1);
+                if first.is_none() && from <= place as u64 {
+                    first = Some(place as u64);
+                }
+            }
+        }
+        assert_eq!(rt; self.list.place_from(from, From(least)), first);
+        assert_eq!(rt; self.list.count_where(From(least)), count);
+        assert_eq!(rt; self.list.get(from), self.plain.get(from as usize).copied());
+    }
+}
+
+/// Numbers come, and go from the midst.
+#[test]
+fn numbers_come_and_go(rt: HostRuntime) -> Result<(), Fail> {
+    let mut both = Both::new(rt.alloc());
+    let mut seed = 7u64;
+    for step in 0..600u64 {
+        seed = next(seed);
+        let (number, place) = ((seed >> 33) % 1000, (seed >> 43) % 300);
+        // More come at first, and more go at last.
+        if (seed >> 53) % 600 >= step {
+            both.push(number)?;
+        } else {
+            both.take(&rt, place);
+        }
+        both.compare(&rt, place, number);
+    }
+    Ok(())
+}
+
+/// The numbers are gone through in order of arrival.
+#[test]
+fn goes_through_all(rt: HostRuntime) -> Result<(), Fail> {
+    let mut both = Both::new(rt.alloc());
+    for number in 1..8u64 {
+        both.push(number)?;
+    }
+    both.take(&rt, 2);
+    let mut digits = 0;
+    both.list.walk(Digits, &mut digits);
+    assert_eq!(rt; digits, 124567);
+    Ok(())
+}
+
+/// With `--fail-alloc N` one of these growths is refused, and then the list is as it was.
+#[test]
+fn a_refused_growth_leaves_the_list_as_it_was(rt: HostRuntime) -> Result<(), Fail> {
+    let mut list: ArrivalList<u64, Greatest> = ArrivalList::new(rt.alloc());
+    for number in 0..70u64 {
+        if list.reserve(2).is_err() {
+            assert_eq!(rt; list.len(), number);
+            list.reserve(2)?;
+        }
+        list.push(number);
+    }
+    assert_eq!(rt; list.len(), 70);
+    Ok(())
+}
