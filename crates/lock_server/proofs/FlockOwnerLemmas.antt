@@ -1,15 +1,36 @@
--- The owners that a file keeps beside its book: for `LockFile::set_flock` and `LockFile::place_flock`.
+-- The owners that a file keeps beside its book: for `LockFile::set_flock`, `LockFile::place_flock` and
+-- `LockFile::next_flock_owner`.
 use Rattle.std.proofs.lemmas.Grind.{common_steps}
-use Rattle.std.proofs.Common.{ℕ, arith, Option}
-use Rattle.std.specs.Prelude.{IsTrue}
-use Rattle.std.specs.BTreeSet.{BTreeSet}
+use Rattle.std.proofs.Common.{ℕ, ◌≡◌, ◌<◌, ◌≤◌, ◌∙◌, true, false, Option, Some, None, refl, sym, arith}
+use Rattle.std.specs.Prelude.{IfNone, IfSome, IsTrue}
+use Rattle.std.specs.BTreeSet.{BTreeSet, contains}
+use Rattle.std.specs.Ordering.{nat_cmp}
 use Rattle.std.proofs.lemmas.Bool.{cases_eq}
 use Rattle.range_core.specs.declared.Mode.{Mode}
 use Rattle.lock_book.specs.declared.book.Book.{Book}
-use Rattle.lock_book.specs.Books.{has_flock_place, SetsFlock}
+use Rattle.lock_book.specs.Books.{flock_modes_of, has_flock_place, SetsFlock}
 use Rattle.lock_server.specs.FlockOwners.{AreKnown}
 
 -- a mode that is set in its place makes no owner known that wasn't
 pub AreKnown-sets : (owners : BTreeSet ℕ) (old new : Book) (owner : ℕ) (mode : Option Mode) → AreKnown owners old
     → IsTrue (has_flock_place old owner) → SetsFlock old new owner mode → AreKnown owners new
 AreKnown-sets owners old new owner mode known there sets = grind (arith, common_steps, cases_eq)
+
+-- an owner that isn't known has no flock lock
+unknown_has_none : (owners : BTreeSet ℕ) (book : Book) (owner : ℕ) → AreKnown owners book → contains nat_cmp owners owner ≡ false → flock_modes_of book owner ≡ None
+unknown_has_none owners book owner known unknown = at (flock_modes_of book owner) refl
+  where
+    at : (held : Option Mode) → flock_modes_of book owner ≡ held → held ≡ None
+    at None is = refl
+    at (Some mode) is = absurd (let h : false ≡ true = sym unknown ∙ known.holders owner mode is in cc)
+
+module _ (owners : BTreeSet ℕ) (book : Book) (known : AreKnown owners book) (from : ℕ) where
+  pub known_least : (found : Option ℕ) → IfSome found (λ owner. (other : ℕ) → from ≤ other → other < owner → contains nat_cmp owners other ≡ false)
+      → IfSome found (λ owner. (other : ℕ) → from ≤ other → other < owner → flock_modes_of book other ≡ None)
+  known_least None least = tt
+  known_least (Some owner) least = λ other late early. unknown_has_none owners book other known (least other late early)
+
+  pub known_none : (found : Option ℕ) → IfNone found ((owner : ℕ) → from ≤ owner → contains nat_cmp owners owner ≡ false)
+      → IfNone found ((owner : ℕ) → from ≤ owner → flock_modes_of book owner ≡ None)
+  known_none None none = λ owner late. unknown_has_none owners book owner known (none owner late)
+  known_none (Some owner) none = tt

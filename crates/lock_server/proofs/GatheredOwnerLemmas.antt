@@ -62,6 +62,19 @@ module _ {X : Type 0} (Gives : ℕ → X → ℕ → Type 0) (xs : List X) where
       → ((other : ℕ) → ¬ Gives i x other) → AddsOwners old new (IsGivenBefore Gives xs (i + 1))
   gathered_skip old new i x at before none = gathered_more old new new i x at before (AddsOwners-same new (Gives i x) none)
 
+  -- elements that give nothing
+  pub gathered_past : (old new : List ℕ) (i end : ℕ) → i ≤ end → ((place : ℕ) (x : X) (other : ℕ) → i ≤ place → place < end → slice_get xs place ≡ Some x → ¬ Gives place x other)
+      → AddsOwners old new (IsGivenBefore Gives xs i) → AddsOwners old new (IsGivenBefore Gives xs end)
+  gathered_past old new i end further none before =
+      AddsOwners-as old new (IsGivenBefore Gives xs i) (IsGivenBefore Gives xs end)
+      (λ other. (
+        λ given. record { place = given.place; before = (let early = given.before in omega (arith, early, further)); item = given.item; is = given.is; gives = given.gives },
+        λ given. elim (cases_lt given.place i) [
+          | inl early ↦ record { place = given.place; before = early; item = given.item; is = given.is; gives = given.gives }
+          | inr late ↦ absurd (none given.place given.item other late given.before given.is given.gives)
+        ],
+      )) before
+
   -- after the last one it is all
   pub gathered_all : (old new : List ℕ) (i : ℕ) (P : ℕ → Type 0) → length xs ≤ i
       → ((other place : ℕ) (x : X) → slice_get xs place ≡ Some x → Gives place x other → P other)

@@ -1,12 +1,10 @@
 -- The wait at a place that is granted, and the place where a wait is found: for `LockFile::cancel`, `LockFile::dismiss`, `LockFile::give` and
 -- `LockFile::grant`.
 use Rattle.std.proofs.lemmas.Grind.{common_steps}
-use Rattle.std.proofs.Common.{ℕ, ◌≡◌, ◌+◌, ◌<◌, ◌∙◌, ap, Option, refl, subst, arith, true, false, Bool, Some, None, List, [], ◌∷◌, ◌++◌, All, length, length-append, get_or}
-use Rattle.std.specs.Prelude.{◌&&◌, if◌then◌else◌, position, slice_get, IsTrue, IsOk, OnOk, Result, Ok, Err}
-use Rattle.std.proofs.lemmas.Bool.{cases_lt, lt-ltb, le-ltb}
-use Rattle.std.proofs.lemmas.List.Sums.{fails_before_first}
-use Rattle.std.proofs.lemmas.List.Quantifiers.{position-Some}
-use Rattle.std.proofs.lemmas.Option.{slice_get-get_or, slice_get_cases}
+use Rattle.std.proofs.Common.{ℕ, ◌≡◌, ◌+◌, ◌<◌, ◌∙◌, ap, Option, refl, sym, subst, arith, true, false, Bool, Some, None, List, [], ◌∷◌, ◌++◌, All, length, length-append, get_or}
+use Rattle.std.specs.Prelude.{◌&&◌, if◌then◌else◌, slice_get, IsTrue, IsOk, OnOk, Result, Ok, Err}
+use Rattle.std.proofs.lemmas.Option.{same_Some, slice_get-get_or, slice_get_cases, slice_get_within}
+use Rattle.arrival_list.specs.Places.{IsPlaceFrom}
 use Rattle.lock_book.specs.declared.Owner.TheVariants.{Description}
 use Rattle.range_core.specs.Ranges.{IsByteRange}
 use Rattle.range_core.specs.declared.Mode.{Mode}
@@ -61,19 +59,15 @@ pub grants_at : (policy : Policy) (F M G : FileState) (place : ℕ) (wait : Pend
 grants_at policy F M G place wait left gets waits ready = grind (arith, common_steps, same_parts)
 
 -- what is found passes the test
-pub found_passes : {X : Type 0} (p : X → Bool) (xs : List X) (place : ℕ) (x : X) → position p xs ≡ Some place → slice_get xs place ≡ Some x → p x ≡ true
-found_passes {X} p xs place x found is =
-    let stands = position-Some p xs place x found in
-    let there = slice_get-get_or xs place x stands.0 in
-    let same : get_or xs place x ≡ x = cc in
-    subst (λ (y : X). p y ≡ true) same stands.1
+pub found_passes : {X : Type 0} (p : X → Bool) (xs : List X) (place : ℕ) (x : X) → IsPlaceFrom p 0 xs (Some place) → slice_get xs place ≡ Some x → p x ≡ true
+found_passes {X} p xs place x (item, found) is = subst (λ (y : X). p y ≡ true) (same_Some item x (sym found.there ∙ is)) found.passes
 
 -- and where nothing is found nothing does
-pub none_passes : {X : Type 0} (p : X → Bool) (xs : List X) → position p xs ≡ None → All (λ x. p x ≡ false) xs
-none_passes p xs none = grind (arith, common_steps, cases_lt, lt-ltb, fails_before_first)
+pub none_passes : {X : Type 0} (p : X → Bool) (xs : List X) → IsPlaceFrom p 0 xs None → All (λ x. p x ≡ false) xs
+none_passes p xs none = λ k d within. none k (get_or xs k d) (omega arith) (slice_get-get_or xs k d within)
 
-pub found_within : {X : Type 0} (p : X → Bool) (xs : List X) (place : ℕ) → position p xs ≡ Some place → place < length xs
-found_within p xs place found = grind (arith, common_steps, cases_lt, lt-ltb, le-ltb)
+pub found_within : {X : Type 0} (p : X → Bool) (xs : List X) (place : ℕ) → IsPlaceFrom p 0 xs (Some place) → place < length xs
+found_within p xs place (item, found) = slice_get_within xs place item found.there
 
 -- the wait at a place has a range that all have
 pub range_at : (waits : List Pending) (place : ℕ) (wait : Pending) → All (λ other. IsByteRange other.span) waits → slice_get waits place ≡ Some wait

@@ -32,6 +32,10 @@ pub mod LookedLemmas
 pub mod ExtentLemmas
 pub mod FreedLemmas
 pub mod KnownLemmas
+pub mod AskingLemmas
+pub mod PlaceFromLemmas
+pub mod ConflictingLemmas
+pub mod RoomFreeLemmas
 pub mod ReadyLemmas
 pub mod HavingLemmas
 pub mod ForgetLemmas

@@ -34,30 +34,23 @@ same_wait file pending wait on of_wait =
     ∙ ap (λ (t : ℕ). build pending.owner file t) (sym of_wait.1)
 
 -- one wait on the file more
-module _ (waits : List Pending) (place : ℕ) (d : Pending) (within : place < length waits) (file last : ℕ) (from : List ℕ) where
-  more : take (place + 1) waits ≡ take place waits ++ get_or waits place d ∷ []
-  more = take_more waits place d within
-
-  pub wait_more : (found next first : Option OwnerWait) → IsEarlierOf found next first
-      → IsNextFrom wait_place (λ wait. (wait.file ≡ file) × IsWaitAmong (take place waits) last wait) from found
-      → IsNextFrom wait_place (λ wait. (wait ≡ record { owner = (get_or waits place d).owner; file = file; ticket = (get_or waits place d).ticket }) × (wait.owner ≤ last)) from next
-      → IsNextFrom wait_place (λ wait. (wait.file ≡ file) × IsWaitAmong (take (place + 1) waits) last wait) from first
-  unfolding wait_of
-  wait_more found next first is one other =
-      rw more (next_joined _ _ (λ wait. (wait.file ≡ file) × IsWaitAmong (take place waits ++ get_or waits place d ∷ []) last wait) from
-      (λ w listed. (listed.0, (listed.1.0, Any-with (IsOf w) (take place waits) [] (get_or waits place d) (rw (append-nil (take place waits)) listed.1.1))))
-      (λ w is_here. (
-        ap (λ (v : OwnerWait). v.file) is_here.0,
-        (
-          is_here.1,
-          Any-at (IsOf w) (take place waits) [] (get_or waits place d) (sym (ap (λ (v : OwnerWait). v.owner) is_here.0), sym (ap (λ (v : OwnerWait). v.ticket) is_here.0)),
-        ),
-      ))
-      (λ w also. elim (Any-push_cases (IsOf w) (take place waits) (get_or waits place d) also.1.1) [
-        | inl among ↦ inl (also.0, (also.1.0, among))
-        | inr of_wait ↦ inr (same_wait file (get_or waits place d) w also.0 of_wait, also.1.0)
-      ])
-      found next first is one other)
+pub wait_joins : (seen : List Pending) (pending : Pending) (file last : ℕ) (from : List ℕ) (found next first : Option OwnerWait) → IsEarlierOf found next first
+    → IsNextFrom wait_place (λ wait. (wait.file ≡ file) × IsWaitAmong seen last wait) from found
+    → IsNextFrom wait_place (λ wait. (wait ≡ record { owner = pending.owner; file = file; ticket = pending.ticket }) × (wait.owner ≤ last)) from next
+    → IsNextFrom wait_place (λ wait. (wait.file ≡ file) × IsWaitAmong (seen ++ pending ∷ []) last wait) from first
+unfolding wait_of
+wait_joins seen pending file last from found next first is one other =
+    next_joined _ _ (λ wait. (wait.file ≡ file) × IsWaitAmong (seen ++ pending ∷ []) last wait) from
+    (λ w listed. (listed.0, (listed.1.0, Any-with (IsOf w) seen [] pending (rw (append-nil seen) listed.1.1))))
+    (λ w is_here. (
+      ap (λ (v : OwnerWait). v.file) is_here.0,
+      (is_here.1, Any-at (IsOf w) seen [] pending (sym (ap (λ (v : OwnerWait). v.owner) is_here.0), sym (ap (λ (v : OwnerWait). v.ticket) is_here.0))),
+    ))
+    (λ w also. elim (Any-push_cases (IsOf w) seen pending also.1.1) [
+      | inl among ↦ inl (also.0, (also.1.0, among))
+      | inr of_wait ↦ inr (same_wait file pending w also.0 of_wait, also.1.0)
+    ])
+    found next first is one other
 
 -- the waits on a file, as those of a state
 pub waits_on : (S : State) (file last : ℕ) (from : List ℕ) (waits : List Pending) (found : Option OwnerWait) → (S.files file).waits ≡ waits

@@ -1,19 +1,18 @@
 -- The entries of owners with detected waits: for `Waiters::end`, `Waiter::leave`, `Waiters::reserve` and `Waiters::sweep`.
 use Rattle.std.proofs.lemmas.Grind.{common_steps}
-use Rattle.std.proofs.Common.{ℕ, ◌≡◌, ◌≢◌, ◌==◌, ◌+◌, ◌<◌, ◌∙◌, sym, ap, subst, refl, arith, cond, suc, Option, Some, None, List, [], ◌∷◌, ◌++◌, All, length, get_or, take, drop, false}
+use Rattle.std.proofs.Common.{ℕ, ◌≡◌, ◌≢◌, ◌==◌, ◌+◌, ◌<◌, ◌∙◌, sym, ap, subst, refl, arith, cond, suc, Bool, Option, Some, None, List, [], ◌∷◌, ◌++◌, All, length, get_or, take, drop, false}
 use Rattle.std.specs.Ordering.{nat_cmp}
 use Rattle.std.specs.BTreeMap.{UpdatesBy, WritesThrough}
 use Rattle.std.specs.Borrow.{MutBor}
 use Rattle.std.specs.Option.{option_copied_mut}
 use Rattle.std.specs.Prelude.{position}
-use Rattle.std.proofs.lemmas.Bool.{cases_eq, eqb-true, eq-eqb, ne_eqb}
+use Rattle.std.proofs.lemmas.Bool.{cases_eq, cases_lt, eqb-true, eq-eqb, lt-ltb, ne_eqb}
 use Rattle.std.proofs.lemmas.List.Elements.{All-head, All-tail}
 use Rattle.std.proofs.lemmas.List.Quantifiers.{position-Some}
-use Rattle.std.proofs.lemmas.List.Sums.{sum_by-append, sum_by-cons}
+use Rattle.std.proofs.lemmas.List.Sums.{fails_before_first, sum_by-append, sum_by-cons}
 use Rattle.lock_server.specs.declared.waiters.Waiter.{Waiter}
 use Rattle.lock_server.specs.declared.waiters.Waiters.{Waiters}
 use Rattle.lock_server.specs.WaitersView.{waiter_of, files_of, crossed_of, files_in, crossed_in, times, Ends, LeavesFile, Sweeps}
-use Rattle.lock_server.proofs.GrantLemmas.{none_passes}
 use Rattle.lock_server.proofs.LeaveLemmas.{split_at}
 use Rattle.lock_server.proofs.TicketLemmas.{is_at-other}
 
@@ -60,6 +59,10 @@ pub LeavesFile-removes : (old new : Waiter) (file place there : ℕ) → positio
     → get_or old.files.items place there ≡ there
     → new.files.items ≡ take place old.files.items ++ drop (suc place) old.files.items → new.crossed ≡ old.crossed → LeavesFile old new file
 LeavesFile-removes old new file place there found is left crossed = grind (arith, common_steps, position-Some, eqb-true, times_with, eq-eqb, ne_eqb)
+
+-- where no place is found nothing passes the test
+none_passes : {X : Type 0} (p : X → Bool) (xs : List X) → position p xs ≡ None → All (λ x. p x ≡ false) xs
+none_passes p xs none = grind (arith, common_steps, cases_lt, lt-ltb, fails_before_first)
 
 -- and one where the file has no place
 pub LeavesFile-none : (entry : Waiter) (file : ℕ) → position (λ other. other == file) entry.files.items ≡ None → LeavesFile entry entry file

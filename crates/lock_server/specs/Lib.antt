@@ -16,6 +16,8 @@ pub mod FileView
 pub mod Listing
 pub mod ListingLaws
 pub mod Waiting
+pub mod Hulls
+pub mod Asking
 pub mod Owed
 pub mod TicketsView
 pub mod WaitersView

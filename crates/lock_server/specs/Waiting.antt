@@ -1,5 +1,5 @@
 -- Places in the list of waits, and room for one more (the words are this project's choice).
-use Rattle.std.specs.Prelude.{◌≡◌, ℕ, ◌<◌, List, [], length, take, IsTrue, vec_len, vec_capacity}
+use Rattle.std.specs.Prelude.{◌≡◌, ℕ, ◌<◌, List, [], length, take, IsTrue}
 use Rattle.lock_book.specs.declared.Owner.TheVariants.{Description}
 use Rattle.lock_book.specs.Books.{room_in, has_flock_place}
 use Rattle.wait_core.specs.declared.Family.{Family}
@@ -39,10 +39,10 @@ IsReservedIn Whole file wait = IsTrue (has_flock_place file.book wait.owner)
 
 -- the file has room for the wait to join and to be granted
 pub record IsReserved (file : LockFile) (wait : Pending) : Type 0 where
-  pub list : vec_len file.waits < vec_capacity file.waits
+  pub list : 0 < file.waits.room
   pub lock : IsReservedIn wait.family file wait
 
 -- the places that were kept for flock locks still are, and there is room for one wait more if there was
 pub record KeepsFlockRoom (old new : LockFile) : Type 0 where
   pub places : (owner : ℕ) → IsTrue (keeps_place old owner) → IsTrue (keeps_place new owner)
-  pub list : vec_len old.waits < vec_capacity old.waits → vec_len new.waits < vec_capacity new.waits
+  pub list : 0 < old.waits.room → 0 < new.waits.room

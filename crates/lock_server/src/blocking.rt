@@ -1,13 +1,12 @@
 //! What stands in the way of a wait on one file.
-ghost use Rattle.std.specs.Prelude.{◌≡◌, ◌↔◌, ℕ, IsTrue, Any, OnOk};
+ghost use Rattle.std.specs.Prelude.{◌↔◌, IsTrue};
 ghost use Rattle.range_core.specs.Ranges.{IsByteRange};
-ghost use Rattle.wait_core.specs.Blocking.{IsBlockedIn, Meet, WaitsConflict};
-ghost use Rattle.lock_server.specs.Blockers.{AddsOwners};
+ghost use Rattle.wait_core.specs.Blocking.{IsBlockedIn, Meet};
 ghost use Rattle.lock_server.specs.Settling.{PendingsConflict};
 ghost use Rattle.lock_book.specs.Books.{byte_modes_of, flock_modes_of};
 ghost use Rattle.lock_server.specs.Pendings.{as_wait};
 
-use crate::{Family, Memory, Pending, Span};
+use crate::{Family, Pending, Span};
 use lock_book::{Book, Owner};
 
 impl Pending {
@@ -32,13 +31,6 @@ impl Pending {
             && self.mode.conflicts_with(other.mode)
             && meet(other.family, self.span, other.span)
     }
-
-    /// Whether one of these waits, on its file, conflicts with the wait.
-    pub(crate) fn conflicts_with_any(&self, earlier: &[Pending]) -> bool
-        ensures { IsTrue result ↔ Any (λ v. PendingsConflict v self.now) earlier.now }
-    {
-        earlier.iter().any(|other| other.conflicts_with(self))
-    }
 }
 
 /// Whether two ranges have a byte in common; whole files always meet.
@@ -49,21 +41,4 @@ pub(crate) fn meet(family: Family, one: Span, other: Span) -> bool
         Family::Bytes => one.first <= other.last && other.first <= one.last,
         Family::Whole => true,
     }
-}
-
-/// Adds the owners of the earlier waits that conflict with the wait.
-pub(crate) fn add_conflicting(
-    owners: &mut Vec<u64>,
-    earlier: &[Pending],
-    wait: &Pending,
-) -> Result<(), Memory>
-    ensures { OnOk result (AddsOwners owners.old.items owners.new.items
-        (λ other. Any (λ v. (v.owner ≡ other) × WaitsConflict (as_wait v) (as_wait wait.now)) earlier.now)) }
-{
-    for other in earlier {
-        if other.conflicts_with(wait) {
-            owners.push(other.owner)?;
-        }
-    }
-    Ok(())
 }

@@ -20,6 +20,8 @@ mod list;
 mod listing;
 
 use crate::Pending;
+use crate::hull::Hull;
+use arrival_list::ArrivalList;
 use lock_book::Book;
 use std::alloc::Global;
 use std::collections::BTreeSet;
@@ -31,7 +33,7 @@ pub struct LockFile {
     book: Book,
     /// The owners for whose flock lock the book keeps a place: a book tells of an owner whether it does, and lists none.
     flock_owners: BTreeSet<u64>,
-    waits: Vec<Pending>,
+    waits: ArrivalList<Pending, Hull>,
     ghost ranges: { All (λ wait. IsByteRange wait.span) waits.items },
     ghost room: { HasRoom book waits.items },
     ghost numbers: { AreOfNumbers (byte_modes_of book) },
@@ -51,7 +53,7 @@ impl LockFile {
         LockFile {
             book: Book::new(alloc),
             flock_owners: BTreeSet::new(alloc),
-            waits: Vec::new(alloc),
+            waits: ArrivalList::new(alloc),
         }
     }
 

@@ -31,7 +31,7 @@ pub enum Freed {
 #[derive(Clone, Copy)]
 pub struct Known {
     /// So many, the earliest, are blocked.
-    pub blocked: usize,
+    pub blocked: u64,
     /// Each of the others is blocked, but for these.
     pub freed: Freed,
 }

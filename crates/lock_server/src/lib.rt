@@ -2,12 +2,14 @@
 //! answered later.
 #![tactic(auto)]
 
+mod asking;
 mod blocking;
 mod closing;
 mod converting;
 mod file;
 mod freed;
 mod holdings;
+mod hull;
 mod import;
 mod laws;
 mod leaving;

@@ -1,6 +1,7 @@
 //! What the calls of a server do, in the words of the rules.
 mod calls;
 mod clients;
+mod crowd;
 mod example;
 mod export;
 mod import;

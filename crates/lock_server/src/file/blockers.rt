@@ -1,12 +1,14 @@
 //! For which owners a wait on the file waits, or would wait.
-ghost use Rattle.std.specs.Prelude.{◌≡◌, ◌<◌, ◌≤◌, IfOk, MatchOption, OnOk};
+ghost use Rattle.std.specs.Prelude.{◌≡◌, ◌<◌, ◌≤◌, Any, IfOk, MatchOption, OnOk, Some, slice_get, take};
+ghost use Rattle.wait_core.specs.Blocking.{WaitsConflict};
+ghost use Rattle.lock_server.specs.Pendings.{as_wait};
 ghost use Rattle.range_core.specs.Ranges.{IsByteRange};
 ghost use Rattle.lock_server.specs.Blockers.{AddsOwners, BlocksBefore, BlocksOn, IsFlockHolder};
 ghost use Rattle.lock_server.specs.Deadlock.{BlocksIn, IsBlockedByOwner, WaitsForOn};
 ghost use Rattle.lock_server.specs.FileView.{file_state};
 
 use super::LockFile;
-use crate::blocking::add_conflicting;
+use crate::asking::Kind;
 use crate::{Family, Memory, Mode, Pending, Policy, Span};
 use lock_book::Owner;
 
@@ -17,30 +19,78 @@ impl LockFile {
     pub fn add_steps(&self, owners: &mut Vec<u64>, policy: Policy, owner: u64) -> Result<(), Memory>
         ensures { OnOk result (AddsOwners owners.old.items owners.new.items (WaitsForOn policy (file_state self.now) owner)) }
     {
-        for (i, wait) in self.waits.iter().enumerate() {
-            if wait.detect && wait.owner == owner {
-                self.add_blockers(owners, policy, &self.waits[..i], wait)?;
-            }
+        let mut from = 0;
+        while let Some(place) = self.first_of(owner, Kind::Detected, from) {
+            self.add_blockers_at(owners, policy, place)?;
+            from = place + 1;
         }
         Ok(())
     }
 
-    /// Adds the owners that block the wait, where these came before it: by a lock and, under the queue policy, also by an earlier
+    /// Adds the owners that block the wait at this place.
+    fn add_blockers_at(
+        &self,
+        owners: &mut Vec<u64>,
+        policy: Policy,
+        place: u64,
+    ) -> Result<(), Memory>
+        ensures { (wait : Pending) → slice_get (file_state self.now).waits place ≡ Some wait
+            → OnOk result (AddsOwners owners.old.items owners.new.items (IsBlockedByOwner policy (file_state self.now) (take place (file_state self.now).waits) wait)) }
+    {
+        match self.waits.get(place) {
+            Some(wait) => self.add_blockers(owners, policy, place, &wait),
+            None => Ok(()),
+        }
+    }
+
+    /// Adds the owners that block the wait, where so many came before it: by a lock and, under the queue policy, also by an earlier
     /// wait (POSIX.1-2017 fcntl, `EDEADLK`).
     pub fn add_blockers(
         &self,
         owners: &mut Vec<u64>,
         policy: Policy,
-        earlier: &[Pending],
+        before: u64,
         wait: &Pending,
     ) -> Result<(), Memory>
         requires { IsByteRange wait.now.span }
-        ensures { OnOk result (AddsOwners owners.old.items owners.new.items (IsBlockedByOwner policy (file_state self.now) earlier.now wait.now)) }
+        ensures { OnOk result (AddsOwners owners.old.items owners.new.items (IsBlockedByOwner policy (file_state self.now) (take before (file_state self.now).waits) wait.now)) }
     {
         self.add_holders(owners, wait)?;
         match policy {
             Policy::Held => Ok(()),
-            Policy::Queue => add_conflicting(owners, earlier, wait),
+            Policy::Queue => self.add_conflicting(owners, before, wait),
+        }
+    }
+
+    /// Adds the owners of those of so many waits, the earliest, that conflict with the wait.
+    pub fn add_conflicting(
+        &self,
+        owners: &mut Vec<u64>,
+        before: u64,
+        wait: &Pending,
+    ) -> Result<(), Memory>
+        ensures { OnOk result (AddsOwners owners.old.items owners.new.items
+            (λ other. Any (λ v. (v.owner ≡ other) × WaitsConflict (as_wait v) (as_wait wait.now)) (take before (file_state self.now).waits))) }
+    {
+        let mut from = 0;
+        while let Some(place) = self.next_conflicting(from, before, wait) {
+            self.add_owner_at(owners, place)?;
+            from = place + 1;
+        }
+        Ok(())
+    }
+
+    /// Adds the owner of the wait at this place.
+    fn add_owner_at(&self, owners: &mut Vec<u64>, place: u64) -> Result<(), Memory>
+        ensures { (wait : Pending) → slice_get (file_state self.now).waits place ≡ Some wait
+            → OnOk result (AddsOwners owners.old.items owners.new.items (λ other. wait.owner ≡ other)) }
+    {
+        match self.waits.get(place) {
+            Some(wait) => {
+                owners.push(wait.owner)?;
+                Ok(())
+            }
+            None => Ok(()),
         }
     }
 

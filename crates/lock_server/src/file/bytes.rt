@@ -4,11 +4,11 @@ ghost use Rattle.range_core.specs.Ranges.{IsByteRange, SplitsRun};
 ghost use Rattle.lock_server.specs.Files.{SameFile, SetsBytes, Unlocks};
 ghost use Rattle.lock_server.specs.FileView.{file_state};
 ghost use Rattle.lock_server.specs.Locks.{IsFirstLock, IsInTheWay};
-ghost use Rattle.lock_server.specs.Pendings.{is_byte_wait};
 ghost use Rattle.lock_server.specs.Room.{byte_waits};
 
 use super::LockFile;
-use crate::{Family, Lock, Memory, Mode, Pending, Span};
+use crate::leaving::Leaving;
+use crate::{Family, Lock, Memory, Mode, Span};
 use lock_book::Owner;
 
 #[tactic(auto, unfolding(crate::specs::FileView::file_state))]
@@ -60,19 +60,13 @@ impl LockFile {
     }
 
     /// For how many byte locks the owner waits.
-    pub(super) fn byte_waits(&self, owner: u64) -> usize
+    pub(super) fn byte_waits(&self, owner: u64) -> u64
         ensures { result ≡ byte_waits (file_state self.now).waits owner }
     {
-        self.waits
-            .iter()
-            .filter(|wait| is_for_bytes(wait, owner))
-            .count()
+        // Room is held for each of them.
+        if self.book.room(Owner::Description(owner)) == 0 {
+            return 0;
+        }
+        self.waits.count_where(Leaving::BytesOf(owner))
     }
-}
-
-/// Whether the wait is for byte locks of this owner.
-fn is_for_bytes(wait: &Pending, owner: u64) -> bool
-    ensures { result ≡ is_byte_wait owner wait.now }
-{
-    wait.family == Family::Bytes && wait.owner == owner
 }

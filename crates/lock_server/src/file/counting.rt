@@ -5,6 +5,7 @@ ghost use Rattle.lock_server.specs.FileView.{file_state};
 
 use super::LockFile;
 use crate::Counts;
+use crate::leaving::Leaving;
 use crate::owners::Owners;
 use lock_book::Owner;
 
@@ -77,9 +78,6 @@ impl LockFile {
     fn count_waits(&self, owners: Owners) -> usize
         ensures { result ≡ waits_on owners.first owners.last (file_state self.now) }
     {
-        self.waits
-            .iter()
-            .filter(|wait| owners.contains(wait.owner))
-            .count()
+        self.waits.count_where(Leaving::Of(owners)) as usize
     }
 }

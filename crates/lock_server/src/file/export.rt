@@ -94,9 +94,11 @@ impl LockFile {
     fn put_waits(&self, out: &mut [u8], at: usize) -> usize
         ensures { Puts (listed wait_words (file_state self.now).waits) out.old at out.new result }
     {
-        let mut behind = words::put(out, at, self.waits.len() as u64);
-        for wait in &self.waits {
-            behind = put_wait(out, behind, wait);
+        let mut behind = words::put(out, at, self.waits.len());
+        let mut place = 0;
+        while let Some(wait) = self.waits.get(place) {
+            behind = put_wait(out, behind, &wait);
+            place += 1;
         }
         behind
     }

@@ -6,7 +6,8 @@ ghost use Rattle.lock_server.specs.Pendings.{is_flock_wait};
 ghost use Rattle.lock_server.specs.Waiting.{KeepsFlockRoom};
 
 use super::LockFile;
-use crate::{Family, Memory, Mode, Pending};
+use crate::asking::Kind;
+use crate::{Family, Memory, Mode};
 
 #[tactic(auto, unfolding(crate::specs::FileView::file_state, crate::specs::FileView::keeps_place))]
 impl LockFile {
@@ -77,13 +78,6 @@ impl LockFile {
     fn waits_for_flock(&self, owner: u64) -> bool
         ensures { IsTrue result ↔ Any (λ wait. IsTrue (is_flock_wait owner wait)) (file_state self.now).waits }
     {
-        self.waits.iter().any(|wait| is_for_flock(wait, owner))
+        self.book.flock_room(owner) && self.first_of(owner, Kind::Flock, 0).is_some()
     }
-}
-
-/// Whether the wait is for the flock lock of this owner.
-fn is_for_flock(wait: &Pending, owner: u64) -> bool
-    ensures { result ≡ is_flock_wait owner wait.now }
-{
-    wait.family == Family::Whole && wait.owner == owner
 }

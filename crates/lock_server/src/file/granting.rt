@@ -1,11 +1,12 @@
 //! Which waits a grant leaves blocked.
-ghost use Rattle.std.specs.Prelude.{◌≡◌, ◌≢◌, ◌<◌, ◌≤◌, ◌+◌, All, IsTrue, Some, length};
+ghost use Rattle.std.specs.Prelude.{◌≡◌, ◌≢◌, ◌≤◌, ◌+◌, All, IsTrue, Some, take};
 ghost use Rattle.range_core.specs.Ranges.{IsByteRange};
 ghost use Rattle.lock_book.specs.Books.{room_in, SetsOwnerMode};
 ghost use Rattle.lock_server.specs.Adding.{LeavesBlocked, OnlyAdds};
 ghost use Rattle.lock_server.specs.FileView.{file_state};
 
 use super::LockFile;
+use crate::asking::Kind;
 use crate::freed::Known;
 use crate::{Family, Mode, Pending, Policy, Span};
 use lock_book::{Book, Owner};
@@ -23,12 +24,26 @@ pub struct Granted {
 impl LockFile {
     /// Whether the waits before this one, where each is blocked, are blocked behind its grant too: it takes nothing from what its owner
     /// has and, where waits are queued, no wait of its owner comes before it. It may be false also where they are.
-    pub(super) fn leaves_blocked(&self, policy: Policy, i: usize) -> bool
-        requires { i < length (file_state self.now).waits }
+    pub(super) fn leaves_blocked(&self, policy: Policy, i: u64) -> bool
         ensures { IsTrue result → LeavesBlocked policy (file_state self.now) i }
     {
-        let wait = &self.waits[i];
-        self.only_adds(wait) && has_none_queued(policy, &self.waits[..i], wait.owner)
+        let Some(wait) = self.waits.get(i) else {
+            return false;
+        };
+        self.only_adds(&wait) && self.has_none_queued(policy, i, wait.owner)
+    }
+
+    /// Whether none of the waits before this place is of the owner, where waits are queued.
+    fn has_none_queued(&self, policy: Policy, before: u64, owner: u64) -> bool
+        ensures { IsTrue result → policy ≡ Policy.Queue → All (λ wait. wait.owner ≢ owner) (take before (file_state self.now).waits) }
+    {
+        match policy {
+            Policy::Held => true,
+            Policy::Queue => match self.first_of(owner, Kind::Any, 0) {
+                Some(place) => before <= place,
+                None => true,
+            },
+        }
     }
 
     /// Whether the lock that the wait is for takes nothing from what its owner has. It is false also of a read lock that takes nothing,
@@ -56,14 +71,4 @@ pub(super) fn set_in_room(book: &mut Book, owner: u64, span: Span, mode: Mode)
     // Room for no set is there already, so the lists stay as they are.
     let _ = book.reserve(owner, 0);
     book.set_reserved(owner, span, Some(mode));
-}
-
-/// Whether no wait among these is of the owner, where waits are queued.
-fn has_none_queued(policy: Policy, earlier: &[Pending], owner: u64) -> bool
-    ensures { IsTrue result → policy ≡ Policy.Queue → All (λ wait. wait.owner ≢ owner) earlier.now }
-{
-    match policy {
-        Policy::Held => true,
-        Policy::Queue => earlier.iter().all(|wait| wait.owner != owner),
-    }
 }

@@ -5,6 +5,7 @@ ghost use Rattle.lock_server.specs.Holding.{AreOfOthers, HasNoLock, HasNothing};
 ghost use Rattle.lock_server.specs.Listing.{number_behind};
 
 use super::LockFile;
+use crate::asking::Kind;
 
 #[tactic(auto, unfolding(crate::specs::FileView::file_state))]
 impl LockFile {
@@ -19,7 +20,7 @@ impl LockFile {
     fn is_waiting(&self, owner: u64) -> bool
         ensures { IsTrue result ↔ ¬ AreOfOthers (file_state self.now).waits owner }
     {
-        self.waits.iter().any(|wait| wait.owner == owner)
+        self.may_wait(owner) && self.first_of(owner, Kind::Any, 0).is_some()
     }
 
     /// The least owner that has a lock or room for one, above this one where one is given: among those with room is each that waits.

@@ -1,5 +1,7 @@
 //! What is listed of one file.
-ghost use Rattle.std.specs.Prelude.{◌≡◌, ℕ, ◌<◌, ◌≤◌, [], ◌∷◌, Any, List, IfSome, IfNone, None, Some, length, slice_get, take};
+ghost use Rattle.std.specs.Prelude.{◌≡◌, ℕ, ◌<◌, ◌≤◌, [], ◌∷◌, Any, List, IfSome, IfNone, None, Some, false, length, slice_get, take};
+ghost use Rattle.std.specs.BTreeSet.{contains};
+ghost use Rattle.std.specs.Ordering.{nat_cmp};
 ghost use Rattle.std.specs.List.Sorted.{IsNonDecreasingBy, IsPartitionPoint};
 ghost use Rattle.range_core.specs.Changes.{modes_of};
 ghost use Rattle.range_core.specs.Ranges.{IsByteRange};
@@ -8,11 +10,14 @@ ghost use Rattle.lock_server.specs.Listing.{BeginBefore, flock_place, IsByteLock
 ghost use Rattle.lock_server.specs.Settling.{IsHeldBack, IsSettled, IsWaitBlocked, PendingsConflict};
 
 use super::LockFile;
+use crate::hull::Hull;
 use crate::owner_waits::earlier_of;
 use crate::{Family, FlockLock, Lock, Mode, Obstacle, OwnerWait, Pending, Policy, Span, Waiting};
 use lock_book::Owner;
 use range_core::RangeList;
+use std::collections::BTreeSet;
 use std::ops::Bound;
+use summary_tree::Walk;
 
 #[tactic(auto, unfolding(crate::specs::FileView::file_state))]
 impl LockFile {
@@ -83,12 +88,7 @@ impl LockFile {
         ensures least { IfSome result (λ owner. (other : ℕ) → number_behind above ≤ other → other < owner → (file_state self.now).flocks other ≡ None) }
         ensures none { IfNone result ((owner : ℕ) → number_behind above ≤ owner → (file_state self.now).flocks owner ≡ None) }
     {
-        let first = match above {
-            None => Bound::Unbounded,
-            Some(owner) => Bound::Excluded(owner),
-        };
-        let owner = self.flock_owners.range((first, Bound::Unbounded)).next()?;
-        Some(*owner)
+        next_in(&self.flock_owners, above)
     }
 
     /// The first of the waits on the file, here of this number, of owners up to the last, by owner, file and ticket, from this one on.
@@ -96,14 +96,7 @@ impl LockFile {
         ensures { IsNextFrom wait_place (λ wait. (wait.file ≡ file) × IsWaitAmong (file_state self.now).waits last wait) (wait_place from) result }
     {
         let mut found = None;
-        for pending in &self.waits {
-            let wait = OwnerWait {
-                owner: pending.owner,
-                file,
-                ticket: pending.ticket,
-            };
-            found = earlier_of(found, wait.asked_for(from, last));
-        }
+        self.waits.walk(AskedFor { file, from, last }, &mut found);
         found
     }
 
@@ -140,43 +133,59 @@ impl LockFile {
     }
 
     /// The wait at this place in order of arrival, with what is in its way; `None` where there are no more waits than so many.
-    pub fn wait_at(&self, policy: Policy, place: usize) -> Option<Waiting>
+    pub fn wait_at(&self, policy: Policy, place: u64) -> Option<Waiting>
         requires { ∥ IsSettled policy (file_state self.now) ∥₁ }
         ensures some { IfSome result (IsWaitAt policy (file_state self.now) place) }
         ensures none { IfNone result (length (file_state self.now).waits ≤ place) }
     {
-        if place >= self.waits.len() {
-            return None;
-        }
-        match self.obstacle(policy, place) {
-            Some(obstacle) => Some(Waiting {
-                pending: self.waits[place],
-                obstacle,
-            }),
+        let pending = self.waits.get(place)?;
+        match self.obstacle(policy, place, &pending) {
+            Some(obstacle) => Some(Waiting { pending, obstacle }),
             None => unreachable!(),
         }
     }
 
-    /// What is in the way of the wait at this place in order of arrival.
-    fn obstacle(&self, policy: Policy, place: usize) -> Option<Obstacle>
-        requires { place < length (file_state self.now).waits }
-        ensures some { (wait : Pending) → slice_get (file_state self.now).waits place ≡ Some wait
-            → IfSome result (IsObstacle policy (file_state self.now) (take place (file_state self.now).waits) wait) }
-        ensures none { (wait : Pending) → slice_get (file_state self.now).waits place ≡ Some wait
-            → IfNone result (¬ IsWaitBlocked policy (file_state self.now) (take place (file_state self.now).waits) wait) }
+    /// What is in the way of the wait, where so many came before it.
+    fn obstacle(&self, policy: Policy, before: u64, wait: &Pending) -> Option<Obstacle>
+        requires { IsByteRange wait.now.span }
+        ensures some { IfSome result (IsObstacle policy (file_state self.now) (take before (file_state self.now).waits) wait.now) }
+        ensures none { IfNone result (¬ IsWaitBlocked policy (file_state self.now) (take before (file_state self.now).waits) wait.now) }
     {
-        let wait = &self.waits[place];
         if let Some(obstacle) = self.lock_in_the_way(wait) {
             return Some(obstacle);
         }
         match policy {
             Policy::Held => None,
             Policy::Queue => {
-                let ticket = first_conflict(&self.waits[..place], wait)?;
+                let ticket = self.first_conflict(before, wait)?;
                 Some(Obstacle::Wait(ticket))
             }
         }
     }
+
+    /// Of so many waits, the earliest, the ticket of the first that conflicts with the wait.
+    fn first_conflict(&self, before: u64, wait: &Pending) -> Option<u64>
+        ensures some { IfSome result (IsFirstConflict (take before (file_state self.now).waits) wait.now) }
+        ensures none { IfNone result (¬ Any (λ v. PendingsConflict v wait.now) (take before (file_state self.now).waits)) }
+    {
+        let place = self.next_conflicting(0, before, wait)?;
+        let other = self.waits.get(place)?;
+        Some(other.ticket)
+    }
+}
+
+/// The least of the owners, above this one where one is given.
+fn next_in(owners: &BTreeSet<u64>, above: Option<u64>) -> Option<u64>
+    ensures above { IfSome result (λ owner. number_behind above ≤ owner) }
+    ensures least { IfSome result (λ owner. (other : ℕ) → number_behind above ≤ other → other < owner → contains nat_cmp owners.now other ≡ false) }
+    ensures none { IfNone result ((owner : ℕ) → number_behind above ≤ owner → contains nat_cmp owners.now owner ≡ false) }
+{
+    let first = match above {
+        None => Bound::Unbounded,
+        Some(owner) => Bound::Excluded(owner),
+    };
+    let owner = owners.range((first, Bound::Unbounded)).next()?;
+    Some(*owner)
 }
 
 /// The first of the runs that begin at this byte or behind it.
@@ -197,15 +206,27 @@ fn beginning_before(runs: &[(Mode, Span)], byte: u64) -> usize
     runs.partition_point(|run| run.1.first < byte)
 }
 
-/// The ticket of the first of these waits that conflicts with the wait.
-fn first_conflict(earlier: &[Pending], wait: &Pending) -> Option<u64>
-    ensures some { IfSome result (IsFirstConflict earlier.now wait.now) }
-    ensures none { IfNone result (¬ Any (λ v. PendingsConflict v wait.now) earlier.now) }
-{
-    for other in earlier {
-        if other.conflicts_with(wait) {
-            return Some(other.ticket);
-        }
+/// The waits on a file, here of this number, that are asked for: of owners up to the last, from this one on.
+#[derive(Clone, Copy)]
+struct AskedFor {
+    file: u64,
+    from: OwnerWait,
+    last: u64,
+}
+
+impl Walk<Pending, Hull, Option<OwnerWait>> for AskedFor {
+    ghost gathers = { λ asked found seen. IsNextFrom wait_place (λ wait. (wait.file ≡ asked.file) × IsWaitAmong seen asked.last wait) (wait_place asked.from) found };
+
+    fn see(&self, found: &mut Option<OwnerWait>, pending: &Pending) {
+        let wait = OwnerWait {
+            owner: pending.owner,
+            file: self.file,
+            ticket: pending.ticket,
+        };
+        *found = earlier_of(*found, wait.asked_for(self.from, self.last));
     }
-    None
+
+    fn see_all(&self, _found: &mut Option<OwnerWait>, _hull: &Hull) -> bool {
+        false
+    }
 }

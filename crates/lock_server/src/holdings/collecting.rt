@@ -6,9 +6,9 @@ ghost use Rattle.lock_server.specs.OpeningsView.{through_at};
 ghost use Rattle.lock_server.specs.TableView.{table_state};
 
 use super::Holdings;
+use crate::Memory;
 use crate::openings::Openings;
 use crate::table::Table;
-use crate::{Memory, Pending};
 use std::alloc::Global;
 
 #[tactic(auto)]
@@ -30,7 +30,7 @@ impl Holdings {
         let mut above = None;
         while let Some(file) = table.next_file(above) {
             self.enter_known(table, file)?;
-            self.enter_waiting(table.waits_on(file), file)?;
+            self.enter_waiting(table, file)?;
             above = Some(file);
         }
         Ok(())
@@ -48,12 +48,14 @@ impl Holdings {
         Ok(())
     }
 
-    /// Each owner of one of these waits is kept with the file.
-    fn enter_waiting(&mut self, waits: &[Pending], file: u64) -> Result<(), Memory>
-        ensures { OnOk result (EntersOn self.old self.new file (AreOfOthers waits.now)) }
+    /// Each owner of a wait on the file is kept with it.
+    fn enter_waiting(&mut self, table: &Table, file: u64) -> Result<(), Memory>
+        ensures { OnOk result (EntersOn self.old self.new file (AreOfOthers ((table_state table.now).files file).waits)) }
     {
-        for wait in waits {
+        let mut place = 0;
+        while let Some(wait) = table.wait_on(file, place) {
             self.enter(wait.owner, file)?;
+            place += 1;
         }
         Ok(())
     }

@@ -1,5 +1,5 @@
 //! From an owner that a search reached on to those for which it waits.
-ghost use Rattle.std.specs.Prelude.{◌≡◌, ◌<◌, ℕ, All, Any, Contains, IfSome, IfNone, OnOk, Some, length, slice_get, take};
+ghost use Rattle.std.specs.Prelude.{◌≡◌, ◌+◌, ◌<◌, ◌^◌, ℕ, Any, Contains, IfSome, IfNone, OnOk, Some, slice_get, take};
 ghost use Rattle.range_core.specs.Ranges.{IsByteRange};
 ghost use Rattle.wait_core.specs.Blocking.{WaitsConflict};
 ghost use Rattle.lock_server.specs.Blockers.{AddsOwners, BlocksOn, IsFlockHolder, IsNextDetected, IsNoneDetected};
@@ -10,7 +10,7 @@ ghost use Rattle.lock_server.specs.TableView.{table_state, table_policy};
 
 use super::Table;
 use super::reached::Reached;
-use crate::blocking::add_conflicting;
+use crate::asking::Kind;
 use crate::{Family, Memory, Mode, Pending, Policy, Span};
 
 #[tactic(auto, unfolding(crate::specs::TableView::table_state, crate::specs::TableView::table_policy, crate::specs::TableView::entry_of))]
@@ -44,9 +44,8 @@ impl Table {
         requires among { Contains reached.old.owners.items owner }
         ensures { OnOk result (Follows self.now target (WaitsForOn (table_policy self.now) ((table_state self.now).files file) owner) reached.old reached.new) }
     {
-        let waits = self.waits_on(file);
         let mut from = 0;
-        while let Some(place) = next_detected(waits, owner, from) {
+        while let Some(place) = self.next_detected(file, owner, from) {
             self.follow_at(reached, target, file, place)?;
             from = place + 1;
         }
@@ -59,10 +58,9 @@ impl Table {
         reached: &mut Reached,
         target: u64,
         file: u64,
-        place: usize,
+        place: u64,
     ) -> Result<(), Memory>
         requires told { AreTold self.now target reached.old }
-        requires within { place < length ((table_state self.now).files file).waits }
         requires among { (wait : Pending) → slice_get ((table_state self.now).files file).waits place ≡ Some wait
             → Contains reached.old.owners.items wait.owner }
         ensures { (wait : Pending) → slice_get ((table_state self.now).files file).waits place ≡ Some wait
@@ -70,40 +68,50 @@ impl Table {
             (IsBlockedByOwner (table_policy self.now) ((table_state self.now).files file) (take place ((table_state self.now).files file).waits) wait)
             reached.old reached.new) }
     {
-        let waits = self.waits_on(file);
-        self.follow_wait(reached, target, file, &waits[..place], &waits[place])
-    }
-
-    /// The waits on the file, in order of arrival.
-    pub fn waits_on(&self, file: u64) -> &[Pending]
-        ensures waits { result.now ≡ ((table_state self.now).files file).waits }
-        ensures ranges { All (λ wait. IsByteRange wait.span) result.now }
-    {
-        match self.files.get(&file) {
-            Some(locks) => locks.waits(),
-            None => &[],
+        match self.wait_on(file, place) {
+            Some(wait) => self.follow_wait(reached, target, file, place, &wait),
+            None => Ok(()),
         }
     }
 
-    /// Reaches those of the owners that block the wait which go on, where these came before it.
+    /// The wait on the file at this place in order of arrival; `None` where there are no more than so many.
+    pub fn wait_on(&self, file: u64, place: u64) -> Option<Pending>
+        ensures is { result ≡ slice_get ((table_state self.now).files file).waits place }
+        ensures range { IfSome result (λ wait. IsByteRange wait.span) }
+        ensures behind { IfSome result (λ wait. place + 1 < 2 ^ 64) }
+    {
+        self.files.get(&file)?.wait(place)
+    }
+
+    /// The place of the first detected wait of the owner on the file from this place on.
+    fn next_detected(&self, file: u64, owner: u64, from: u64) -> Option<u64>
+        ensures some { IfSome result (IsNextDetected ((table_state self.now).files file).waits owner from) }
+        ensures none { IfNone result (IsNoneDetected ((table_state self.now).files file).waits owner from) }
+        ensures behind { IfSome result (λ place. place + 1 < 2 ^ 64) }
+    {
+        self.files.get(&file)?.first_of(owner, Kind::Detected, from)
+    }
+
+    /// Reaches those of the owners that block the wait which go on, where so many came before it.
     fn follow_wait(
         &self,
         reached: &mut Reached,
         target: u64,
         file: u64,
-        earlier: &[Pending],
+        before: u64,
         wait: &Pending,
     ) -> Result<(), Memory>
         requires range { IsByteRange wait.now.span }
         requires told { AreTold self.now target reached.old }
         requires among { Contains reached.old.owners.items wait.now.owner }
         ensures { OnOk result (Follows self.now target
-            (IsBlockedByOwner (table_policy self.now) ((table_state self.now).files file) earlier.now wait.now) reached.old reached.new) }
+            (IsBlockedByOwner (table_policy self.now) ((table_state self.now).files file) (take before ((table_state self.now).files file).waits) wait.now)
+            reached.old reached.new) }
     {
         self.follow_holders(reached, target, file, wait)?;
         match self.policy {
             Policy::Held => Ok(()),
-            Policy::Queue => self.follow_earlier(reached, target, earlier, wait),
+            Policy::Queue => self.follow_earlier(reached, target, file, before, wait),
         }
     }
 
@@ -222,33 +230,39 @@ impl Table {
         }
     }
 
-    /// Reaches those of the owners of earlier waits that conflict with this one which go on.
+    /// Reaches those of the owners of so many waits on the file, the earliest, that conflict with this one which go on.
     fn follow_earlier(
         &self,
         reached: &mut Reached,
         target: u64,
-        earlier: &[Pending],
+        file: u64,
+        before: u64,
         wait: &Pending,
     ) -> Result<(), Memory>
         requires { AreTold self.now target reached.old }
         ensures { OnOk result (Follows self.now target
-            (λ other. Any (λ v. (v.owner ≡ other) × WaitsConflict (as_wait v) (as_wait wait.now)) earlier.now) reached.old reached.new) }
+            (λ other. Any (λ v. (v.owner ≡ other) × WaitsConflict (as_wait v) (as_wait wait.now)) (take before ((table_state self.now).files file).waits))
+            reached.old reached.new) }
     {
         let mut next = Vec::new(self.alloc);
-        add_conflicting(&mut next, earlier, wait)?;
+        self.add_conflicting(&mut next, file, before, wait)?;
         self.add_going_on(reached, &next, target)
     }
-}
 
-/// The place of the first detected wait of the owner from this place on.
-fn next_detected(waits: &[Pending], owner: u64, from: usize) -> Option<usize>
-    ensures some { IfSome result (IsNextDetected waits.now owner from) }
-    ensures none { IfNone result (IsNoneDetected waits.now owner from) }
-{
-    for i in from..waits.len() {
-        if waits[i].detect && waits[i].owner == owner {
-            return Some(i);
+    /// Adds the owners of so many waits on the file, the earliest, that conflict with this one.
+    fn add_conflicting(
+        &self,
+        owners: &mut Vec<u64>,
+        file: u64,
+        before: u64,
+        wait: &Pending,
+    ) -> Result<(), Memory>
+        ensures { OnOk result (AddsOwners owners.old.items owners.new.items
+            (λ other. Any (λ v. (v.owner ≡ other) × WaitsConflict (as_wait v) (as_wait wait.now)) (take before ((table_state self.now).files file).waits))) }
+    {
+        match self.files.get(&file) {
+            Some(locks) => locks.add_conflicting(owners, before, wait),
+            None => Ok(()),
         }
     }
-    None
 }

@@ -30,7 +30,7 @@ impl Table {
         ensures some { IfSome result (IsWaitAt (table_policy self.now) ((table_state self.now).files file) place) }
         ensures none { IfNone result (length ((table_state self.now).files file).waits ≤ place) }
     {
-        self.files.get(&file)?.wait_at(self.policy, place)
+        self.files.get(&file)?.wait_at(self.policy, place as u64)
     }
 
     /// The first of the waits of owners up to the last, by owner, file and ticket, from this one on. It looks at each wait on each file.

@@ -131,7 +131,7 @@ impl Table {
         let mut above = None;
         while let Some(file) = self.next_file(above) {
             if let Some(place) = self.next_ready(file, Known::nothing()) {
-                return Some((file, place));
+                return Some((file, place as usize));
             }
             above = Some(file);
         }

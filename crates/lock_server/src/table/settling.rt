@@ -64,7 +64,7 @@ impl Table {
     }
 
     /// The place of the earliest wait on the file that nothing blocks, where this is known of them; `None` where each is blocked.
-    pub(super) fn next_ready(&self, file: u64, known: Known) -> Option<usize>
+    pub(super) fn next_ready(&self, file: u64, known: Known) -> Option<u64>
         requires { IsKnown (table_policy self.now) ((table_state self.now).files file) known }
         ensures ready { IfSome result (IsReadyAt (table_policy self.now) ((table_state self.now).files file)) }
         ensures settled { IfNone result (IsSettled (table_policy self.now) ((table_state self.now).files file)) }

@@ -4,6 +4,7 @@ mod listing;
 use super::calls::{Bytes, Call, Told};
 use lock_server::{Conversion, Counts, Memory, Mode, Policy, Rules};
 use std::alloc::Global;
+use std::collections::BTreeSet;
 
 /// How many owners the model knows, from 0 on.
 pub(super) const OWNERS: u64 = 4;
@@ -39,6 +40,13 @@ pub(super) struct Model {
     waits: Vec<Claim>,
     grants: Vec<u64>,
     seen: Vec<(u64, u64, u64)>,
+}
+
+/// The owners that are in the way of a claim, by way of others too: in the order in which they were come to, and to be looked up.
+#[derive(Drop)]
+struct Reached {
+    owners: Vec<u64>,
+    known: BTreeSet<u64>,
 }
 
 /// A claim that no wait is made of.
@@ -127,63 +135,62 @@ impl Model {
         true
     }
 
-    /// Whether the owner is in the way of the claim: by a lock, or under the queue policy, where the claim is for more than its owner
-    /// has, by one of so many waits that came before.
-    fn blocks(&self, owner: u64, claim: &Claim, before: usize) -> bool {
-        let waits = if self.rules.policy == Policy::Queue && !self.has(claim) {
+    /// How many of so many waits that came before can be in the way of the claim: under the queue policy all of them, where the claim is
+    /// for more than its owner has.
+    fn waits_before(&self, claim: &Claim, before: usize) -> usize {
+        if self.rules.policy == Policy::Queue && !self.has(claim) {
             before
         } else {
             0
-        };
-        for other in self.locks.iter().chain(self.waits.iter().take(waits)) {
-            if other.owner == owner && clash(other, claim) {
-                return true;
-            }
         }
-        false
     }
 
-    /// Whether some owner is in the way of the claim.
+    /// Whether a lock or one of so many waits that came before is in the way of the claim.
     fn is_blocked(&self, claim: &Claim, before: usize) -> bool {
-        for owner in 0..OWNERS {
-            if self.blocks(owner, claim, before) {
+        let waits = self.waits_before(claim, before);
+        for other in self.locks.iter().chain(self.waits.iter().take(waits)) {
+            if clash(other, claim) {
                 return true;
             }
         }
         false
     }
 
-    /// Whether some wait of the first owner that is looked at for deadlocks is blocked by the second one.
-    fn waits_for(&self, one: u64, other: u64) -> bool {
+    /// Adds the owners of the locks and of so many waits that came before that are in the way of the claim.
+    fn reach(&self, reached: &mut Reached, claim: &Claim, before: usize) -> Result<(), Memory> {
+        let waits = self.waits_before(claim, before);
+        for other in self.locks.iter().chain(self.waits.iter().take(waits)) {
+            if clash(other, claim) && reached.known.insert(other.owner)? {
+                reached.owners.push(other.owner)?;
+            }
+        }
+        Ok(())
+    }
+
+    /// Adds those that are in the way of a wait of the owner that is looked at for deadlocks.
+    fn go_on(&self, reached: &mut Reached, owner: u64) -> Result<(), Memory> {
         for (place, wait) in self.waits.iter().enumerate() {
-            if wait.detect && wait.owner == one && self.blocks(other, wait, place) {
-                return true;
+            if wait.detect && wait.owner == owner {
+                self.reach(reached, wait, place)?;
             }
         }
-        false
+        Ok(())
     }
 
-    /// Whether the owner blocks the claim, or one that was reached waits for it.
-    fn is_next(&self, claim: &Claim, reached: &[u64], owner: u64) -> bool {
-        for one in reached {
-            if self.waits_for(*one, owner) {
-                return true;
-            }
-        }
-        self.blocks(owner, claim, self.waits.len())
-    }
-
-    /// Whether the claim, were it to wait, would close a cycle of owners that wait for each other: each is looked at as often as there
-    /// are owners.
+    /// Whether the claim, were it to wait, would close a cycle of owners that wait for each other.
     fn would_cycle(&self, claim: &Claim) -> Result<bool, Memory> {
-        let mut reached = Vec::new(self.alloc);
-        for step in 0..OWNERS * OWNERS {
-            let owner = step % OWNERS;
-            if !reached.contains(&owner) && self.is_next(claim, &reached, owner) {
-                reached.push(owner)?;
-            }
+        let mut reached = Reached {
+            owners: Vec::new(self.alloc),
+            known: BTreeSet::new(self.alloc),
+        };
+        self.reach(&mut reached, claim, self.waits.len())?;
+        for next in 0..usize::MAX {
+            let Some(owner) = reached.owners.get(next).copied() else {
+                break;
+            };
+            self.go_on(&mut reached, owner)?;
         }
-        Ok(reached.contains(&claim.owner))
+        Ok(reached.known.contains(&claim.owner))
     }
 
     /// The lock of the owner on the byte, with what it has in the same mode on both sides.
@@ -206,12 +213,16 @@ impl Model {
 
     /// The lock that is told of a byte in the way: of the least owner that is.
     fn get_at(&self, claim: &Claim) -> Told {
-        for owner in 0..OWNERS {
-            if self.blocks(owner, claim, 0) {
-                return self.lock_at(claim.file, owner, claim.first);
+        let mut least = None;
+        for lock in &self.locks {
+            if clash(lock, claim) && least.is_none_or(|owner| lock.owner < owner) {
+                least = Some(lock.owner);
             }
         }
-        Told::Nothing
+        match least {
+            Some(owner) => self.lock_at(claim.file, owner, claim.first),
+            None => Told::Nothing,
+        }
     }
 
     /// The first lock that is in the way of the claim.

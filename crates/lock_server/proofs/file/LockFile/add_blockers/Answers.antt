@@ -1,4 +1,4 @@
-use Rattle.std.proofs.Common.{sym, subst}
+use Rattle.std.proofs.Common.{sym, subst, take}
 use Rattle.std.proofs.lemmas.Result.{on_ok_weaker}
 use Rattle.wait_core.specs.declared.Policy.{Policy}
 use Rattle.lock_server.specs.Blockers.{AddsOwners}
@@ -13,6 +13,6 @@ returns-in-Queue c =
     let new = c.add_conflicting.new.owners.items in
     on_ok_weaker c.add_conflicting.result
     (λ added.
-    subst (λ (policy : Policy). AddsOwners old new (IsBlockedByOwner policy (file_state c.args.self.now) c.args.earlier.now c.args.wait.now)) (sym c.in-Queue.is)
+    subst (λ (policy : Policy). AddsOwners old new (IsBlockedByOwner policy (file_state c.args.self.now) (take c.args.before (file_state c.args.self.now).waits) c.args.wait.now)) (sym c.in-Queue.is)
     (AddsOwners-both old c.add_holders.new.owners.items new _ _ c.in_ok-add_holders.ensures added))
     c.add_conflicting.ensures

@@ -1,48 +1,54 @@
-use Rattle.std.proofs.Common.{◌≡◌, ◌∙◌, ap, sym, arith, get_or, length, true, false, take, List, Some}
-use Rattle.std.specs.Prelude.{slice_get}
-use Rattle.std.proofs.lemmas.Option.{slice_get-get_or}
-use Rattle.range_core.specs.declared.Mode.TheVariants.{Read}
-use Rattle.wait_core.specs.declared.Family.TheVariants.{Bytes}
+use Rattle.std.proofs.Common.{◌≡◌, ◌+◌, ◌<◌, ◌≤◌, ◌^◌, ◌==◌, ◌&&◌, None, Some, length, take, subst, arith}
+use Rattle.std.proofs.lemmas.Grind.{common_steps}
+use Rattle.arrival_list.specs.Places.{IsPlaceFrom}
 use Rattle.lock_server.specs.declared.Pending.{Pending}
-use Rattle.lock_server.specs.Blockers.{AddsOwners}
+use Rattle.lock_server.specs.declared.asking.Kind.TheVariants.{Detected}
+use Rattle.lock_server.specs.Asking.{is_of_kind}
 use Rattle.lock_server.specs.Deadlock.{IsBlockedByOwner}
 use Rattle.lock_server.specs.FileView.{file_state}
 use Rattle.lock_server.proofs.BlockerLemmas.{IsStepAt, all_steps}
-use Rattle.lock_server.proofs.GatheredOwnerLemmas.{AddsOwners-as, gathered_more, gathered_skip}
+use Rattle.lock_server.proofs.ConflictingLemmas.{next_detected, none_detected}
+use Rattle.lock_server.proofs.GatheredOwnerLemmas.{AddsOwners-as, AddsOwners-same, gathered_more, gathered_past}
 use Rattle.lock_server.proofs.file.LockFile.add_steps.Goals as goal
-use Rattle.lock_server.proofs.file.LockFile.add_steps.Goals.{then-wait+then-wait-owner+in_ok-add_blockers, else-wait, else-wait-via-then-wait+else-wait-owner, else-wait-via-else-wait}
 
-pub loop-i-preserved : goal.loop-i-preserved
-unfolding file_state
-loop-i-preserved c =
+pub loop-place-init : goal.loop-place-init
+loop-place-init c = AddsOwners-same c.args.owners.now.items _ (λ other given. (let early = given.before in omega (arith, early)))
+
+pub loop-place-preserved : goal.loop-place-preserved
+loop-place-preserved c =
     let old = c.args.owners.now.items in
-    let mid = c.loop-i.owners.items in
+    let mid = c.loop-place.owners.items in
+    let new = c.add_blockers_at.new.owners.items in
     let F = file_state c.args.self.now in
-    let waits = c.args.self.now.waits.items in
-    let i = c.loop-i.i in
-    let none : Pending = record { ticket = 0; owner = 0; family = Bytes; span = record { first = 0; last = 0 }; mode = Read; detect = false } in
-    let wait = get_or c.deref-wait-items.result.now i none in
-    let at : slice_get waits i ≡ Some wait =
-    ap (λ (ws : List Pending). slice_get ws i) (sym c.deref-wait-items.ensures.value) ∙ slice_get-get_or c.deref-wait-items.result.now i none c.loop-i-test.true in
+    let place = c.in-Some.place in
     let Gives = IsStepAt c.args.policy F c.args.owner in
-    elim c.if-wait.branch [
-      | then-wait+then-wait-owner+in_ok-add_blockers w ↦
-          (let new = w.add_blockers.new.owners.items in
-          let adds : AddsOwners mid new (IsBlockedByOwner c.args.policy F (take i waits) wait) = rw w.deref.ensures.value at w.in_ok-add_blockers.ensures in
-          rw w.owners-is
-          (gathered_more Gives waits old mid new i wait at c.loop-i.invariant
-          (AddsOwners-as mid new (IsBlockedByOwner c.args.policy F (take i waits) wait) (Gives i wait)
-          (λ other. (λ blocked. record { detected = w.if-wait.true; of_one = w.if-wait-owner.true; blocked = blocked }, λ step. step.blocked)) adds)))
-      | else-wait w ↦
-          rw w.owners-is
-          (gathered_skip Gives waits old mid i wait at c.loop-i.invariant
-          (λ other step. elim w.else-wait.branch [
-            | else-wait-via-then-wait+else-wait-owner w' ↦ w'.if-wait-owner.false step.of_one
-            | else-wait-via-else-wait w' ↦ (let h : false ≡ true = sym w'.if-wait.false ∙ step.detected in cc)
-          ]))
-    ]
+    let found = subst (IsPlaceFrom (λ wait. is_of_kind Detected wait && (wait.owner == c.args.owner)) c.loop-place.from F.waits) c.in-Some.is c.first_of.ensures.first in
+    let next = next_detected F.waits c.args.owner c.loop-place.from place found in
+    let wait : Pending = next.is.0 in
+    gathered_more Gives F.waits old mid new place wait next.is.1
+    (gathered_past Gives F.waits old mid c.loop-place.from place next.at_or_behind
+    (λ earlier x other late early at step. next.first earlier late early (x, at, step.detected, step.of_one)) c.loop-place.invariant)
+    (AddsOwners-as mid new (IsBlockedByOwner c.args.policy F (take place F.waits) wait) (Gives place wait)
+    (λ other. (λ blocked. record { detected = next.is.2; of_one = next.is.3; blocked = blocked }, λ step. step.blocked))
+    (c.in_ok-add_blockers_at.ensures wait next.is.1))
+
+pub loop-place-smaller : goal.loop-place-smaller
+loop-place-smaller c =
+    let F = file_state c.args.self.now in
+    let found = subst (IsPlaceFrom (λ wait. is_of_kind Detected wait && (wait.owner == c.args.owner)) c.loop-place.from F.waits) c.in-Some.is c.first_of.ensures.first in
+    let late = (next_detected F.waits c.args.owner c.loop-place.from c.in-Some.place found).at_or_behind in
+    let behind = c.in-Some.ensures.behind in
+    grind (arith, common_steps)
 
 pub returns : goal.returns
-unfolding file_state
 returns c =
-    all_steps c.args.policy (file_state c.args.self.now) c.args.owner c.args.owners.now.items c.loop-i.owners.items c.loop-i.i (let same = ap (λ (waits : List Pending). length waits) c.deref-wait-items.ensures.value in omega arith) c.loop-i.invariant
+    let F = file_state c.args.self.now in
+    let from = c.loop-place.from in
+    let old = c.args.owners.now.items in
+    let new = c.loop-place.owners.items in
+    let Gives = IsStepAt c.args.policy F c.args.owner in
+    let found = subst (IsPlaceFrom (λ wait. is_of_kind Detected wait && (wait.owner == c.args.owner)) from F.waits) c.in_default.is c.first_of.ensures.first in
+    let none = none_detected F.waits c.args.owner from found in
+    all_steps c.args.policy F c.args.owner old new (from + length F.waits) (omega arith)
+    (gathered_past Gives F.waits old new from (from + length F.waits) (omega arith)
+    (λ place x other late early at step. none place late (x, at, step.detected, step.of_one)) c.loop-place.invariant)

@@ -1,9 +1,16 @@
-use Rattle.std.proofs.Common.{arith}
-use Rattle.std.proofs.lemmas.Grind.{common_steps}
 use Rattle.lock_server.specs.FileView.{file_state}
+use Rattle.lock_server.specs.Listing.{number_behind}
+use Rattle.lock_server.proofs.FlockOwnerLemmas.{known_least, known_none}
 use Rattle.lock_server.proofs.file.LockFile.next_flock_owner.Goals as goal
-use Rattle.lock_server.proofs.file.LockFile.next_flock_owner.Goals.{in-None, in-Some}
 
-pub returns-in_err-owner-clause-none : goal.returns-in_err-owner-clause-none
+pub returns-clause-least : goal.returns-clause-least
 unfolding file_state
-returns-in_err-owner-clause-none c = elim c.match-above.branch [ in-None w ↦ grind (arith, common_steps) | in-Some w ↦ grind (arith, common_steps) ]
+returns-clause-least c =
+    let file = c.args.self.now in
+    known_least file.flock_owners file.book file.known (number_behind c.args.above) c.next_in.result c.next_in.ensures.least
+
+pub returns-clause-none : goal.returns-clause-none
+unfolding file_state
+returns-clause-none c =
+    let file = c.args.self.now in
+    known_none file.flock_owners file.book file.known (number_behind c.args.above) c.next_in.result c.next_in.ensures.none

@@ -1,8 +1,13 @@
-use Rattle.std.proofs.Common.{◌∷◌, length, take}
+use Rattle.std.proofs.Common.{◌-◌, ◌∷◌, length, take}
 use Rattle.std.specs.List.{flat_map}
 use Rattle.lock_server.specs.Bytes.{wait_words}
+use Rattle.lock_server.specs.FileView.{file_state}
 use Rattle.lock_server.specs.Words.{Puts}
 use Rattle.lock_server.proofs.file.LockFile.put_waits.Given as goal
 
 abbrev pub invariant-loop-wait : goal.invariant-loop-wait
-invariant-loop-wait l = Puts (length l.wait-items ∷ flat_map wait_words (take l.wait-index l.wait-items)) l.fn.out l.fn.at l.out l.behind
+invariant-loop-wait l =
+    Puts (length (file_state l.self).waits ∷ flat_map wait_words (take l.place (file_state l.self).waits)) l.fn.out l.fn.at l.out l.behind
+
+abbrev pub decreases-loop-wait : goal.decreases-loop-wait
+decreases-loop-wait l = length (file_state l.self).waits - l.place

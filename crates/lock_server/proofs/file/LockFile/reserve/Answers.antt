@@ -1,12 +1,7 @@
 use Rattle.std.proofs.lemmas.Grind.{common_steps}
 use Rattle.std.proofs.Common.{arith}
-use Rattle.std.proofs.lemmas.List.Sums.{length-filter, count_by-le-length}
 use Rattle.lock_server.specs.FileView.{file_state, keeps_place}
 use Rattle.lock_server.proofs.file.LockFile.reserve.Goals as goal
-
-pub overflow_add-waits : goal.overflow_add-waits
-unfolding file_state
-overflow_add-waits c = grind (arith, common_steps, count_by-le-length, length-filter)
 
 pub returns-in-Whole-clause-same : goal.returns-in-Whole-clause-same
 unfolding file_state

@@ -1,23 +1,33 @@
-use Rattle.std.proofs.Common.{◌≡◌, ◌∙◌, ap, arith, sym, List, Some}
-use Rattle.std.specs.Prelude.{slice_get}
-use Rattle.std.proofs.lemmas.Option.{slice_get-get_or}
+use Rattle.std.proofs.Common.{◌≡◌, ◌∙◌, ◌≤◌, Some, sym, subst, arith}
+use Rattle.std.specs.Prelude.{IfNone, slice_get}
+use Rattle.std.proofs.lemmas.Grind.{common_steps}
+use Rattle.std.proofs.lemmas.Option.{same_Some, slice_get_cases, slice_get_within}
 use Rattle.lock_server.specs.declared.Pending.{Pending}
 use Rattle.lock_server.specs.FileView.{file_state}
+use Rattle.lock_server.specs.Settling.{IsWaitBlocked}
+use Rattle.lock_server.proofs.GrantLemmas.{range_at}
 use Rattle.lock_server.proofs.ListingLemmas.{never_free}
+use Rattle.std.proofs.Common.{take}
 use Rattle.lock_server.proofs.file.LockFile.wait_at.Goals as goal
+
+pub obstacle-requires : goal.obstacle-requires
+unfolding file_state
+obstacle-requires c = range_at c.args.self.now.waits.items c.args.place c.in_ok-pending.pending c.args.self.now.ranges (sym c.get.ensures ∙ c.in_ok-pending.was)
 
 pub unreachable-requires : goal.unreachable-requires
 unfolding file_state
 unreachable-requires c =
-    let count = c.len.ensures in
-    never_free c.args.policy (file_state c.args.self.now) c.args.place c.requires (omega arith) c.in-None.ensures.none
+    let F = file_state c.args.self.now in
+    let there : slice_get F.waits c.args.place ≡ Some c.in_ok-pending.pending = sym c.get.ensures ∙ c.in_ok-pending.was in
+    never_free c.args.policy F c.args.place c.requires (slice_get_within F.waits c.args.place c.in_ok-pending.pending there)
+    (λ wait at.
+    (let same = same_Some c.in_ok-pending.pending wait (sym there ∙ at) in
+    subst (λ (w : Pending). ¬ IsWaitBlocked c.args.policy F (take c.args.place F.waits) w) same c.in-None.ensures.none))
 
 pub returns-clause-some : goal.returns-clause-some
 unfolding file_state
-returns-clause-some c =
-    let items : List Pending = c.args.self.now.waits.items in
-    let found = c.index.ensures in
-    let count = c.len.ensures in
-    let there : slice_get items c.args.place ≡ Some c.index.result.now =
-    slice_get-get_or items c.args.place c.index.result.now (omega arith) ∙ ap Some (sym found) in
-    record { there = there; obstacle = c.in-Some.ensures.some c.index.result.now there }
+returns-clause-some c = record { there = sym c.get.ensures ∙ c.in_ok-pending.was; obstacle = c.in-Some.ensures.some }
+
+pub returns-in_err-pending-clause-none : goal.returns-in_err-pending-clause-none
+unfolding file_state
+returns-in_err-pending-clause-none c = grind (arith, common_steps, slice_get_cases)

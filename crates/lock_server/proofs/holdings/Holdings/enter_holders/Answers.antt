@@ -1,6 +1,5 @@
-use Rattle.std.proofs.Common.{arith, subst, List}
-use Rattle.lock_server.specs.declared.Pending.{Pending}
-use Rattle.lock_server.specs.Holding.{AreOfOthers, HasNothing}
+use Rattle.std.proofs.Common.{arith}
+use Rattle.lock_server.specs.Holding.{HasNothing}
 use Rattle.lock_server.specs.HoldingsView.{EntersOn}
 use Rattle.lock_server.specs.Listing.{number_behind}
 use Rattle.lock_server.specs.TableView.{table_state}
@@ -22,7 +21,7 @@ loop-file-preserved c =
       more = λ owner any kept. waiting.more owner any (known.more owner any kept);
       rest = λ owner unkept. record {
         lock = known.rest owner (not_before _ _ (waiting.more owner file) unkept);
-        waits = subst (λ (waits : List Pending). AreOfOthers waits owner) c.waits_on.ensures.waits (waiting.rest owner unkept);
+        waits = waiting.rest owner unkept;
       };
     } in
     files_more c.args.self.now (λ owner any. HasNothing (S.files any) owner) (number_behind c.loop-file.above) c.loop-file.self file c.enter_waiting.new.self c.loop-file.invariant

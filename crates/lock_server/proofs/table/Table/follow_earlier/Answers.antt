@@ -1,7 +1,8 @@
 use Rattle.std.proofs.lemmas.Result.{on_ok_weaker}
-use Rattle.std.proofs.Common.{ℕ, ◌≡◌, Any}
+use Rattle.std.proofs.Common.{ℕ, ◌≡◌, Any, take}
 use Rattle.wait_core.specs.Blocking.{WaitsConflict}
 use Rattle.lock_server.specs.Pendings.{as_wait}
+use Rattle.lock_server.specs.TableView.{table_state}
 use Rattle.lock_server.proofs.FollowLemmas.{gathered_followed}
 use Rattle.lock_server.proofs.table.Table.follow_earlier.Goals as goal
 
@@ -9,7 +10,7 @@ pub returns : goal.returns
 returns c =
     let table = c.args.self.now in
     let next = c.add_conflicting.new.owners.items in
-    let P : ℕ → Type 0 = λ other. Any (λ v. (v.owner ≡ other) × WaitsConflict (as_wait v) (as_wait c.args.wait.now)) c.args.earlier.now in
+    let P : ℕ → Type 0 = λ other. Any (λ v. (v.owner ≡ other) × WaitsConflict (as_wait v) (as_wait c.args.wait.now)) (take c.args.before ((table_state table).files c.args.file).waits) in
     on_ok_weaker c.add_going_on.result
     (λ those.
     gathered_followed table c.args.target P c.new-next.result.items next c.args.reached.now c.add_going_on.new.reached c.requires c.new-next.ensures.items

@@ -1,5 +1,6 @@
-use Rattle.std.proofs.Common.{ℕ, ◌∙◌, sym, subst, Contains}
-use Rattle.std.proofs.lemmas.Option.{same_Some, slice_get_within}
+use Rattle.std.proofs.Common.{ℕ, ◌+◌, ◌<◌, ◌≤◌, ◌^◌, ◌∙◌, sym, subst, Contains, arith}
+use Rattle.std.proofs.lemmas.Grind.{common_steps}
+use Rattle.std.proofs.lemmas.Option.{same_Some}
 use Rattle.lock_server.specs.declared.Pending.{Pending}
 use Rattle.lock_server.specs.Blockers.{IsNextDetected, IsNoneDetected}
 use Rattle.lock_server.specs.TableView.{table_policy, table_state}
@@ -14,12 +15,10 @@ loop-place-init c =
 
 pub follow_at-requires : goal.follow_at-requires
 follow_at-requires c =
-    let next : IsNextDetected ((table_state c.args.self.now).files c.args.file).waits c.args.owner c.loop-place.from c.in-Some.place =
-    rw c.waits_on-waits.ensures.waits at c.in-Some.ensures.some in
+    let next : IsNextDetected ((table_state c.args.self.now).files c.args.file).waits c.args.owner c.loop-place.from c.in-Some.place = c.in-Some.ensures.some in
     let found = next.is in
     record {
       told = c.loop-place.invariant.told;
-      within = slice_get_within ((table_state c.args.self.now).files c.args.file).waits c.in-Some.place found.0 found.1;
       among = λ wait at.
           subst (λ (w : Pending). Contains c.loop-place.reached.owners.items w.owner) (same_Some found.0 wait (sym found.1 ∙ at))
           (subst (λ (n : ℕ). Contains c.loop-place.reached.owners.items n) (sym found.3)
@@ -29,15 +28,19 @@ follow_at-requires c =
 pub loop-place-preserved : goal.loop-place-preserved
 loop-place-preserved c =
     let table = c.args.self.now in
-    let next : IsNextDetected ((table_state table).files c.args.file).waits c.args.owner c.loop-place.from c.in-Some.place =
-    rw c.waits_on-waits.ensures.waits at c.in-Some.ensures.some in
+    let next : IsNextDetected ((table_state table).files c.args.file).waits c.args.owner c.loop-place.from c.in-Some.place = c.in-Some.ensures.some in
     let found = next.is in
     wait_more table c.args.target c.args.file c.args.owner c.args.reached.now c.in-Some.place found.0 c.loop-place.reached c.follow_at.new.reached found.1 found
     (waits_up_to table c.args.target c.args.file c.args.owner c.args.reached.now c.loop-place.from c.in-Some.place c.loop-place.reached next
     c.loop-place.invariant) (c.in_ok-follow_at.ensures found.0 found.1)
 
+pub loop-place-smaller : goal.loop-place-smaller
+loop-place-smaller c =
+    let late = c.in-Some.ensures.some.at_or_behind in
+    let behind = c.in-Some.ensures.behind in
+    grind (arith, common_steps)
+
 pub returns : goal.returns
 returns c =
-    let none : IsNoneDetected ((table_state c.args.self.now).files c.args.file).waits c.args.owner c.loop-place.from =
-    rw c.waits_on-waits.ensures.waits at c.in_default.ensures.none in
+    let none : IsNoneDetected ((table_state c.args.self.now).files c.args.file).waits c.args.owner c.loop-place.from = c.in_default.ensures.none in
     waits_all c.args.self.now c.args.target c.args.file c.args.owner c.args.reached.now c.loop-place.from c.loop-place.reached none c.loop-place.invariant

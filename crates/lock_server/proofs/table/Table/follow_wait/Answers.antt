@@ -1,4 +1,4 @@
-use Rattle.std.proofs.Common.{◌≡◌, Any}
+use Rattle.std.proofs.Common.{◌≡◌, Any, take}
 use Rattle.std.proofs.lemmas.Result.{on_ok_weaker}
 use Rattle.wait_core.specs.Blocking.{WaitsConflict}
 use Rattle.lock_server.specs.Deadlock.{BlocksIn, IsBlockedByOwner}
@@ -12,8 +12,8 @@ unfolding table_policy
 returns-in-Held c =
     let F = (table_state c.args.self.now).files c.args.file in
     let wait = c.args.wait.now in
-    followed_as c.args.self.now c.args.target (BlocksIn wait.family F wait) (IsBlockedByOwner c.args.self.now.policy F c.args.earlier.now wait)
-    c.args.reached.now c.follow_holders.new.reached (by_held c.args.self.now.policy F c.args.earlier.now wait c.in-Held.is) c.in_ok-follow_holders.ensures
+    followed_as c.args.self.now c.args.target (BlocksIn wait.family F wait) (IsBlockedByOwner c.args.self.now.policy F (take c.args.before F.waits) wait)
+    c.args.reached.now c.follow_holders.new.reached (by_held c.args.self.now.policy F (take c.args.before F.waits) wait c.in-Held.is) c.in_ok-follow_holders.ensures
 
 pub follow_earlier-requires : goal.follow_earlier-requires
 follow_earlier-requires c = c.in_ok-follow_holders.ensures.told
@@ -26,7 +26,7 @@ returns-in-Queue c =
     on_ok_weaker c.follow_earlier.result
     (λ more.
     followed_both c.args.self.now c.args.target (BlocksIn wait.family F wait)
-    (λ other. Any (λ v. (v.owner ≡ other) × WaitsConflict (as_wait v) (as_wait wait)) c.args.earlier.now)
-    (IsBlockedByOwner c.args.self.now.policy F c.args.earlier.now wait) c.args.reached.now c.follow_holders.new.reached c.follow_earlier.new.reached
-    c.in_ok-follow_holders.ensures more (by_queue c.args.self.now.policy F c.args.earlier.now wait c.in-Queue.is))
+    (λ other. Any (λ v. (v.owner ≡ other) × WaitsConflict (as_wait v) (as_wait wait)) (take c.args.before F.waits))
+    (IsBlockedByOwner c.args.self.now.policy F (take c.args.before F.waits) wait) c.args.reached.now c.follow_holders.new.reached c.follow_earlier.new.reached
+    c.in_ok-follow_holders.ensures more (by_queue c.args.self.now.policy F (take c.args.before F.waits) wait c.in-Queue.is))
     c.follow_earlier.ensures

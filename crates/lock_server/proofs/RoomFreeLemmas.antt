@@ -1,0 +1,59 @@
+-- Who has neither room nor a place for a grant doesn't wait: for `LockFile::may_wait` and `LockFile::next_among`.
+use Rattle.std.proofs.Common.{◌≡◌, ◌≢◌, ℕ, ◌<◌, ◌≤◌, ◌∙◌, Bool, true, false, ◌&&◌, ◌==◌, None, Some, List, [], ◌∷◌, All, Any, length, get_or, refl, sym, ap, subst, cond, arith}
+use Rattle.std.specs.Prelude.{IsTrue, filter, slice_get}
+use Rattle.std.proofs.lemmas.Bool.{eqb-true, eq-eqb}
+use Rattle.std.proofs.lemmas.List.Elements.{All-cons, All-nil}
+use Rattle.std.proofs.lemmas.Option.{get_or_from_slice_get, slice_get_within}
+use Rattle.arrival_list.specs.Places.{NonePassesFrom}
+use Rattle.lock_book.specs.declared.Owner.TheVariants.{Description}
+use Rattle.lock_book.specs.declared.book.Book.{Book}
+use Rattle.lock_book.specs.Books.{has_flock_place, room_in}
+use Rattle.wait_core.specs.declared.Family.{Family}
+use Rattle.wait_core.specs.declared.Family.TheVariants.{Bytes, Whole}
+use Rattle.lock_server.specs.declared.Pending.{Pending}
+use Rattle.lock_server.specs.declared.freed.Freed.TheVariants.{Of}
+use Rattle.lock_server.specs.declared.freed.Reach.{Reach}
+use Rattle.lock_server.specs.Asking.{is_among, reaches}
+use Rattle.lock_server.specs.Holding.{AreOfOthers}
+use Rattle.lock_server.specs.Pendings.{is_byte_wait, is_flock_wait, is_of_bytes, is_of_whole}
+use Rattle.lock_server.specs.Room.{HasRoom, byte_waits}
+use Rattle.lock_server.proofs.ListLemmas.{Any-here, Any-there}
+
+-- no wait for byte locks, and none for a flock lock, of the owner is one for either
+differs_in : (owner : ℕ) (family : Family) (other : ℕ) → (is_of_bytes family && (other == owner)) ≡ false → ((is_of_whole family && (other == owner)) ≡ true → ⊥)
+    → other ≢ owner
+differs_in owner Bytes other none never is = let h : false ≡ true = sym none ∙ eq-eqb other owner is in cc
+differs_in owner Whole other none never is = never (eq-eqb other owner is)
+
+none_kept_at : (b : Bool) (n : ℕ) (wait : Pending) (kept : List Pending) → length (cond b (wait ∷ kept) kept) ≡ 0 → (b ≡ false) × (length kept ≡ 0)
+none_kept_at true n wait kept none = absurd (omega (arith, none))
+none_kept_at false n wait kept none = (refl, none)
+
+no_wait : (owner : ℕ) (waits : List Pending) → length (filter (is_byte_wait owner) waits) ≡ 0 → ¬ Any (λ wait. IsTrue (is_flock_wait owner wait)) waits
+    → AreOfOthers waits owner
+no_wait owner [] bytes flocks = All-nil (λ wait. wait.owner ≢ owner)
+no_wait owner (wait ∷ waits) bytes flocks =
+    let here = none_kept_at (is_byte_wait owner wait) 0 wait (filter (is_byte_wait owner) waits) bytes in
+    All-cons (λ any. any.owner ≢ owner) wait waits
+    (differs_in owner wait.family wait.owner here.0 (λ is. flocks (Any-here (λ any. IsTrue (is_flock_wait owner any)) wait waits is)))
+    (no_wait owner waits here.1 (λ later. flocks (Any-there (λ any. IsTrue (is_flock_wait owner any)) wait waits later)))
+
+-- so who has neither room nor a place
+pub no_room_no_wait : (book : Book) (waits : List Pending) (owner : ℕ) → HasRoom book waits → room_in book (Description owner) ≡ 0
+    → has_flock_place book owner ≡ false → AreOfOthers waits owner
+no_room_no_wait book waits owner room none nowhere =
+    no_wait owner waits (let few = room.bytes owner in omega (arith, few, none))
+    (λ any. (let place = room.places owner any in let h : false ≡ true = sym nowhere ∙ place in cc))
+
+and_fails : (b c : Bool) → b ≡ false → (b && c) ≡ false
+and_fails b c fail = ap (λ x. x && c) fail
+
+differs : (b : Bool) → (b ≡ true → ⊥) → b ≡ false
+differs true never = absurd (never refl)
+differs false never = refl
+
+-- none of others' waits is among those of the owner
+pub none_among : (owner : ℕ) (reach : Reach) (waits : List Pending) (from : ℕ) → AreOfOthers waits owner → NonePassesFrom (is_among (Of owner reach)) from waits
+none_among owner reach waits from others i wait late at =
+    let another = subst (λ (w : Pending). w.owner ≢ owner) (get_or_from_slice_get waits i wait wait at) (others i wait (slice_get_within waits i wait at)) in
+    and_fails (wait.owner == owner) (reaches reach wait) (differs (wait.owner == owner) (λ is. another (eqb-true wait.owner owner is)))

@@ -1,0 +1,107 @@
+//! Within which numbers waits lie.
+ghost use Rattle.std.specs.Prelude.{◌≡◌, ℕ, ◌≤◌, false};
+ghost use Rattle.lock_server.specs.Freed.{Reaches};
+ghost use Rattle.lock_server.specs.Hulls.{AreWithin, Holds, IsWithin};
+
+use crate::freed::Reach;
+use crate::{Family, Pending};
+use summary_tree::Summary;
+
+/// From the least to the greatest of some numbers.
+#[derive(Clone, Copy)]
+pub struct Between {
+    least: u64,
+    greatest: u64,
+}
+
+/// Within which numbers the waits lie: their tickets, their owners and the bytes of those for byte locks; and whether one is for a
+/// flock lock.
+#[derive(Clone, Copy)]
+pub struct Hull {
+    pub(crate) tickets: Between,
+    pub(crate) owners: Between,
+    bytes: Between,
+    whole: bool,
+}
+
+impl Between {
+    /// No number.
+    fn none() -> Between {
+        Between {
+            least: u64::MAX,
+            greatest: 0,
+        }
+    }
+
+    /// From the one number to the other.
+    fn of(least: u64, greatest: u64) -> Between
+        ensures { Holds result least greatest }
+    {
+        Between { least, greatest }
+    }
+
+    /// From the least of both to the greatest.
+    fn join(self, more: Between) -> Between
+        ensures these { (least greatest : ℕ) → Holds self least greatest → Holds result least greatest }
+        ensures more { (least greatest : ℕ) → Holds more least greatest → Holds result least greatest }
+    {
+        Between {
+            least: self.least.min(more.least),
+            greatest: self.greatest.max(more.greatest),
+        }
+    }
+
+    /// Whether some of the numbers may lie from the one to the other.
+    pub(crate) fn meets(self, least: u64, greatest: u64) -> bool
+        ensures { result ≡ false → (n m : ℕ) → Holds self n m → n ≤ greatest → least ≤ m → ⊥ }
+    {
+        self.least <= greatest && least <= self.greatest
+    }
+}
+
+impl Hull {
+    /// Whether some of the waits may be for a lock there.
+    pub(crate) fn meets(&self, reach: Reach) -> bool
+        ensures { result ≡ false → (wait : Pending) → IsWithin self.now wait → Reaches reach wait → ⊥ }
+    {
+        match reach.family {
+            Family::Bytes => self.bytes.meets(reach.span.first, reach.span.last),
+            Family::Whole => self.whole,
+        }
+    }
+}
+
+impl Summary<Pending> for Hull {
+    ghost tells = { AreWithin };
+
+    fn none() -> Hull {
+        Hull {
+            tickets: Between::none(),
+            owners: Between::none(),
+            bytes: Between::none(),
+            whole: false,
+        }
+    }
+
+    fn one(wait: &Pending) -> Hull {
+        let (bytes, whole) = match wait.family {
+            Family::Bytes => (Between::of(wait.span.first, wait.span.last), false),
+            Family::Whole => (Between::none(), true),
+        };
+        Hull {
+            tickets: Between::of(wait.ticket, wait.ticket),
+            owners: Between::of(wait.owner, wait.owner),
+            bytes,
+            whole,
+        }
+    }
+
+    fn join(self, more: Hull) -> Hull {
+        Hull {
+            tickets: self.tickets.join(more.tickets),
+            owners: self.owners.join(more.owners),
+            bytes: self.bytes.join(more.bytes),
+            whole: self.whole || more.whole,
+        }
+    }
+}
