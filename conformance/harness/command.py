@@ -58,6 +58,13 @@ def program_of(options: argparse.Namespace) -> Path:
     return options.lockreplay or Path(os.environ.get("LOCKREPLAY", PROGRAM))
 
 
+def why(failed: Exception) -> str:
+    """What failed: of a file its name and the system's message."""
+    if isinstance(failed, OSError) and failed.filename and failed.strerror:
+        return f"{failed.filename}: {failed.strerror}"
+    return str(failed)
+
+
 def chosen_scripts(options: argparse.Namespace, lockreplay: Lockreplay) -> tuple[int, Iterator[Script]]:
     """How many scripts there are to run, and the scripts. Raises OSError where one can't be read, and CouldNotRun where one that is to be
     skipped isn't among them."""
@@ -158,7 +165,7 @@ def main() -> int:
     except Faulty as fault:
         print(f"locktest: lockreplay fails: {fault}", file=sys.stderr)
     except OSError as failed:
-        print(f"locktest: {failed}{'' if program_of(options).exists() else '; make build makes lockreplay'}", file=sys.stderr)
+        print(f"locktest: {why(failed)}{'' if program_of(options).exists() else '; make build makes lockreplay'}", file=sys.stderr)
     except KeyboardInterrupt:
         return 130
     return 2

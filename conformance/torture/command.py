@@ -13,7 +13,7 @@ from pathlib import Path
 from typing import Optional, Union
 
 from harness import filesystem
-from harness.command import PROGRAM, program_of, stop
+from harness.command import PROGRAM, program_of, stop, why
 from harness.guard import CouldNotRun
 from torture.history import Manner, Writer
 from torture.judging import ILLEGAL, HistoryJudge, Verdict, shorten
@@ -143,7 +143,7 @@ def main() -> int:
     except CouldNotRun as failed:
         print(f"locktorture: {failed}", file=sys.stderr)
     except OSError as failed:
-        print(f"locktorture: {failed}{'' if program_of(options).exists() else f'; make build makes {PROGRAM.name}'}", file=sys.stderr)
+        print(f"locktorture: {why(failed)}{'' if program_of(options).exists() else f'; make build makes {PROGRAM.name}'}", file=sys.stderr)
     except KeyboardInterrupt:
         return 130
     return 2

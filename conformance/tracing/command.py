@@ -9,7 +9,7 @@ import sys
 from pathlib import Path
 from typing import Optional, Sequence
 
-from harness.command import program_of
+from harness.command import program_of, why
 from harness.replay import Faulty, Lockreplay
 from tracing.assume import Explained, Explainer
 from tracing.follow import Assumptions, Follower, Request
@@ -138,7 +138,7 @@ def main(words: Optional[Sequence[str]] = None) -> int:
             return ALL_AS_IN_THE_LOG
         explained = explained_of(options, program)
     except (NotALog, Faulty, OSError, lzma.LZMAError) as failed:
-        print(f"lockreplay-trace: {failed}", file=sys.stderr)
+        print(f"lockreplay-trace: {why(failed)}", file=sys.stderr)
         return FAULTY
     except CannotJudge as failed:
         print(f"lockreplay-trace: {failed}", file=sys.stderr)

@@ -159,7 +159,7 @@ class Program:
         try:
             ended = subprocess.run(command, input=text.encode(), stdout=subprocess.PIPE, stderr=subprocess.PIPE, check=False)
         except OSError as failed:
-            raise CannotJudge(f"{self.path}: {failed}") from failed
+            raise CannotJudge(f"{self.path}: {failed.strerror or failed}") from failed
         if ended.returncode == ILLEGAL:
             return refused(ended.stdout.decode())
         if ended.returncode != 0:
