@@ -797,9 +797,9 @@ static void nothing_is_left_of_a_refusal(void) {
 }
 
 /* Files and owners that hold nothing take no memory, however many come and go: but for one block of each map and list that was
- * used once, which a single owner in each way would leave too. */
+ * used once, and a few of the tree of a file's waits, which a single owner in each way would leave too. */
 static void nothing_is_left(void) {
-    enum { USED_ONCE = 6 };
+    enum { USED_ONCE = 9 };
     const long before = blocks, kept = taken_beside_a_keeper(0), made = taken_after_files(0);
     CHECK(taken_beside_a_keeper(COMERS) <= kept + USED_ONCE);
     CHECK(taken_after_files(COMERS) <= made + USED_ONCE);
