@@ -15,6 +15,7 @@ from typing import Callable, Iterator
 
 from clustertest import faults, judged, locks, planted, refusals, schedules, torture
 from clustertest.nodes import GRACE_MS, MEMORY, Failed, Nodes, require
+from harness.guard import CouldNotRun
 
 # In the order in which they run on the same three nodes.
 STEPS: dict[str, Callable[[Nodes], str]] = {
@@ -86,7 +87,7 @@ def run_step(number: int, name: str, run: Callable[[], str]) -> bool:
         separator = "" if not told else " " if told.startswith("#") else ": "
         print(f"ok {number} - {name}, {time.monotonic() - begun:.1f} s{separator}{told}", flush=True)
         return True
-    except (Failed, OSError, subprocess.SubprocessError, AssertionError) as failed:
+    except (Failed, CouldNotRun, OSError, subprocess.SubprocessError, AssertionError) as failed:
         print(f"not ok {number} - {name}: {failed}", flush=True)
         for line in traceback.format_exc().splitlines():
             print(f"# {line}", flush=True)
