@@ -359,8 +359,10 @@ class Outages(unittest.TestCase):
 
     def test_who_ends_behind_the_purge_has_let_go_by_then(self) -> None:
         ends = process(8, opened(1, 2, 3), bytes_of(Call.SET, 3, 4), flocked(5, 6, "x"), closed(250, 251, 3), exits_at=252, waited_at=253)
-        lines = ["> 0 set 0 2 w 0 9", "< 0 ok", "> 1 flock 0 1001 ex", "< 1 ok", "> 3 close 0 1001", "< 3 ok", "> 2 close 0 2", "< 2 ok"]
-        self.assert_history([process(7), ends], *lines)
+        sees = process(7, opened(1, 2, 3), bytes_of(Call.SET, 205, 206), closed(207, 208, 3))
+        lines = ["> 2 set 0 2 w 0 9", "< 2 ok", "> 3 flock 0 1003 ex", "< 3 ok", "> 4 close 0 2", "> 5 close 0 1003", "< 4 ok", "< 5 ok"]
+        lines += ["> 0 set 0 1 w 0 9", "< 0 ok", "> 1 close 0 1", "< 1 ok"]
+        self.assert_history([sees, ends], *lines)
 
     def test_a_wait_that_was_cut_off_waits_no_more(self) -> None:
         dies = process(8, opened(1, 2, 3), bytes_of(Call.WAIT, 95, None), waited_at=120)

@@ -214,8 +214,15 @@ class ProcessWriter:
         start, end, by_outage = self.going(record.start, self.process.waited_at if record.end is None else record.end)
         description.drops.append(Drop(start, end, False, by_outage))
         holding = self.holding_on(description.file)
-        if holding.may_hold():
-            holding.note(record, self.add(record, f"close {description.file} {self.owner}", "ok"), releases=True)
+        if not holding.may_hold():
+            return
+        text, answer = f"close {description.file} {self.owner}", "ok"
+        if by_outage:
+            # (its locks go with the purge, however late it closes)
+            self.writer.requests.append(Request(text, start, end, answer, mount=self.mount))
+        else:
+            answer = self.add(record, text, answer)
+        holding.note(record, answer, releases=True)
 
     def holding_on(self, file: int) -> Holding:
         """What the process may hold on a file by traditional locks."""
