@@ -65,7 +65,29 @@ END
 done
 check 2 empty too-long --diagnose << 'END'
 lockreplay: line 0: 6 TooLong
-<stdin>: it may have 1048576 bytes
+<stdin>: it is too long; it may have 1048576 bytes
+END
+
+# An expectation in another form.
+printf '1 open 0 rw\n# expect 1#x ok\n' > expectation
+check 2 empty empty --expect --diagnose expectation << 'END'
+lockreplay: line 2: 2 Word
+expectation:2:10: read "1#x"; expected P#N TEXT, of a process 1 to 16; or LINE or no LINE, a lock, flock, wait or proc line of the report
+    # expect 1#x ok
+             ^
+END
+
+# A journal of more requests than a script may have: what is due is told, and not why.
+awk 'BEGIN {
+    print "1#1 open 0 rw | 1#1 fd 0"
+    for (n = 2; n < 60000; n++) printf "1#%d setlk 0 w set 0 10 | 1#%d ok\n", n, n
+    print "1#60000 fork 2 | 1#60000 ok\n2#1 setlk 0 w set 5 1 | 2#1 ok" }' > long.journal
+echo 'line 60001: 2#1 setlk 0 w set 5 1 | 2#1 EAGAIN expected' > long.told
+check 3 long.told long.journal --check --diagnose << 'END'
+<stdin>:60001:29: read "ok"; expected "EAGAIN"
+    2#1 setlk 0 w set 5 1 | 2#1 ok
+                                ^
+# not explained: the requests up to here are more than a script may have
 END
 
 # A journal that has a fault, one that isn't legal and why, and one that only lacks a header line.

@@ -73,10 +73,10 @@ fn told_of_none(alloc: Global, text: Text<'_>, number: u64) -> Result<String, Al
     let name = text.name;
     if number == 0 {
         let most = size_max(text.language);
-        format!(in alloc; "{name}: it may have {most} bytes\n")
+        format!(in alloc; "{name}: it is too long; it may have {most} bytes\n")
     } else {
         let kept = text.bytes.len();
-        format!(in alloc; "{name}:{number}: the line is behind the {kept} bytes that were kept\n")
+        format!(in alloc; "{name}:{number}: the line comes after the {kept} bytes that were kept\n")
     }
 }
 

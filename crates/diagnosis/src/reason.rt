@@ -70,6 +70,8 @@ pub enum Reason<'a> {
     Once(u64),
     /// A comment, on a line of its own.
     Comment,
+    /// What a comment that is an expectation may say, of so many processes.
+    Expectation(Processes),
     /// The number of a process. It is told whether wide limits would have the one that was read.
     Process(Processes, bool),
     /// The number of a process, in front of a command.
@@ -223,13 +225,13 @@ impl Display for Reason<'_> {
             Reason::Shorter(most) => write!(f, "it may have {most}"),
             Reason::Late(line) => write!(
                 f,
-                "it stands before all requests, and the first is in line {line}"
+                "it has to come before all requests, and the first is on line {line}"
             ),
-            Reason::Once(line) => write!(f, "it stands once, and line {line} has it"),
-            Reason::Comment => f.write_str("a comment stands on a line of its own"),
+            Reason::Once(line) => write!(f, "it may come once, and line {line} has it"),
+            Reason::Comment => f.write_str("put a comment on a line of its own"),
             Reason::Report(line) => write!(
                 f,
-                "behind line {line}, of the report, only lock, flock, wait and proc may stand"
+                "after line {line}, of the report, only lock, flock, wait and proc lines may come"
             ),
             Reason::FreeId(line) => write!(f, "a request of this ID is open since line {line}"),
             Reason::OpenId => f.write_str("no request of this ID is open"),
@@ -280,6 +282,13 @@ fn write_expected<W: Write>(f: &mut Formatter<W>, reason: Reason<'_>) -> fmt::Re
         Reason::ProcessInFront(processes) => {
             let most = processes.most();
             write!(f, "a process 1 to {most} in front of it")
+        }
+        Reason::Expectation(processes) => {
+            let most = processes.most();
+            write!(
+                f,
+                "P#N TEXT, of a process 1 to {most}; or LINE or no LINE, a lock, flock, wait or proc line of the report"
+            )
         }
         Reason::HeaderWord(near) => {
             let near = Near(Some(near));

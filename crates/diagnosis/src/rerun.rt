@@ -18,8 +18,8 @@ pub struct Rerun {
 
 impl Rerun {
     /// Runs the requests of the entries up to the line of this number, of which all in front are legal, as a script has them. Where they
-    /// are too many for a script, nothing is told.
-    pub fn of(alloc: Global, bytes: &[u8], number: u64) -> Result<Rerun, Memory> {
+    /// are too many for a script, the line that is due is the one that was expected, and nothing explains it.
+    pub fn of(alloc: Global, bytes: &[u8], number: u64, expected: &str) -> Result<Rerun, Memory> {
         let (script, is_entry) = script_of(alloc, bytes, number)?;
         let mut rerun = Rerun {
             is_entry,
@@ -33,9 +33,19 @@ impl Rerun {
         match text_in(alloc, Detail::Explained(States::Nowhere), script) {
             Ok(text) => rerun.take_run(alloc, str::from_utf8(&text).unwrap_or(""), requests)?,
             Err(RunFault::Memory(memory)) => return Err(memory),
-            Err(_) => {}
+            Err(_) => rerun.take_expected(alloc, expected)?,
         }
         Ok(rerun)
+    }
+
+    /// Takes the entry that was expected, if one was.
+    fn take_expected(&mut self, alloc: Global, expected: &str) -> Result<(), AllocError> {
+        if let Some(due) = expected.strip_suffix(" expected") {
+            self.due = Some(String::from_str(alloc, due)?);
+        }
+        self.why.push_str(
+            "# not explained: the requests up to here are more than a script may have\n",
+        )
     }
 
     /// Takes the explained run of so many requests.

@@ -15,6 +15,9 @@ pub fn find_in_script<'a>(words: &[Token<'a>], heading: &Heading) -> Option<Find
     if let Some(header) = heading.has(first.text) {
         return find_in_header(header, first.text, rest, heading).map(|found| found.behind(1));
     }
+    if first.text == "#" {
+        return Some(Finding::at(2, Reason::Expectation(heading.processes)));
+    }
     if !heading.processes.have(first.text) {
         return Some(Finding::at(0, no_process(first.text, heading)));
     }

@@ -9,23 +9,29 @@ use replay_core::{FromReader, Outcome, RunFault, ToWriter, check};
 use script_core::{JournalFault, JournalReader};
 use std::alloc::{AllocError, Global};
 use std::io::Read as ReadBytes;
+use std::str;
 
 /// What stands behind the verdict on an illegal journal of this name: the word with which it may not go on, and what the rules have there;
 /// the line, and a caret under the word; and what explains the entry that is due, as a run is explained.
 pub fn told_of_illegal(alloc: Global, name: &str, bytes: &[u8]) -> Result<String, Memory> {
-    let number = illegal_line(alloc, bytes)?;
+    let (number, expected) = illegal_line(alloc, bytes)?;
     let Some(line) = line_at(bytes, number) else {
         return Ok(format!(in alloc; "{name}:{number}: the report ends too soon\n")?);
     };
-    let rerun = Rerun::of(alloc, bytes, number)?;
+    let rerun = Rerun::of(
+        alloc,
+        bytes,
+        number,
+        str::from_utf8(&expected).unwrap_or(""),
+    )?;
     let mut text = String::new(alloc);
     push_difference(alloc, &mut text, (name, number, line), &rerun)?;
     rerun.push_why(&mut text)?;
     Ok(text)
 }
 
-/// The number of the first line with which the journal isn't legal, or that behind the last one.
-fn illegal_line(alloc: Global, bytes: &[u8]) -> Result<u64, Memory> {
+/// The number of the first line with which the journal isn't legal, or that behind the last one, and what is expected there.
+fn illegal_line(alloc: Global, bytes: &[u8]) -> Result<(u64, Vec<u8>), Memory> {
     let mut reader = JournalReader::new(alloc)?;
     let mut number: u64 = 0;
     for line in bytes.split(|byte| *byte == b'\n') {
@@ -33,14 +39,24 @@ fn illegal_line(alloc: Global, bytes: &[u8]) -> Result<u64, Memory> {
         match reader.next(line) {
             Ok(()) => {}
             Err(JournalFault::Memory(memory)) => return Err(memory),
-            Err(JournalFault::Grammar(_) | JournalFault::Illegal) => return Ok(number),
+            Err(JournalFault::Grammar(_) | JournalFault::Illegal) => {
+                return Ok((number, expected_of(alloc, &reader)?));
+            }
         }
     }
-    if bytes.ends_with(b"\n") {
-        Ok(number)
+    let behind = if bytes.ends_with(b"\n") {
+        number
     } else {
-        Ok(number.saturating_add(1))
-    }
+        number.saturating_add(1)
+    };
+    Ok((behind, expected_of(alloc, &reader)?))
+}
+
+/// What the reader of a journal expected in place of what it refused.
+fn expected_of(alloc: Global, reader: &JournalReader) -> Result<Vec<u8>, Memory> {
+    let mut expected = Vec::new(alloc);
+    reader.write_expected(&mut expected)?;
+    Ok(expected)
 }
 
 /// Appends where the line differs from the one that is due, and the line with a caret there.

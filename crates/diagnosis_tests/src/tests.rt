@@ -129,19 +129,19 @@ const HEADERS_AND_COMMANDS: [Row; 16] = [
     // A header line.
     (
         b"1 open 0 rw\npolicy queue\n",
-        "f:2:1: read \"policy\"; it stands before all requests, and the first is in line 1",
+        "f:2:1: read \"policy\"; it has to come before all requests, and the first is on line 1",
         "policy queue",
         "^",
     ),
     (
         b"# x\n\n1 exit\nlimits\n",
-        "f:4:1: read \"limits\"; it stands before all requests, and the first is in line 3",
+        "f:4:1: read \"limits\"; it has to come before all requests, and the first is on line 3",
         "limits",
         "^",
     ),
     (
         b"# x\nlimits wide\n\nlimits wide\n",
-        "f:4:1: read \"limits\"; it stands once, and line 2 has it",
+        "f:4:1: read \"limits\"; it may come once, and line 2 has it",
         "limits wide",
         "^",
     ),
@@ -404,31 +404,31 @@ const WORDS_AND_COMMENTS: [Row; 12] = [
     // A comment behind a request.
     (
         b"1 open 0 rw # the database\n",
-        "f:1:13: read \"#\"; a comment stands on a line of its own",
+        "f:1:13: read \"#\"; put a comment on a line of its own",
         "1 open 0 rw # the database",
         "            ^",
     ),
     (
         b"1 flock 0 sh #shared\n",
-        "f:1:14: read \"#shared\"; a comment stands on a line of its own",
+        "f:1:14: read \"#shared\"; put a comment on a line of its own",
         "1 flock 0 sh #shared",
         "             ^",
     ),
     (
         b"1 setlk 0 w # set 0 0\n",
-        "f:1:13: read \"#\"; a comment stands on a line of its own",
+        "f:1:13: read \"#\"; put a comment on a line of its own",
         "1 setlk 0 w # set 0 0",
         "            ^",
     ),
     (
         b"1 #x\n",
-        "f:1:3: read \"#x\"; a comment stands on a line of its own",
+        "f:1:3: read \"#x\"; put a comment on a line of its own",
         "1 #x",
         "  ^",
     ),
     (
         b"policy queue # fair\n",
-        "f:1:14: read \"#\"; a comment stands on a line of its own",
+        "f:1:14: read \"#\"; put a comment on a line of its own",
         "policy queue # fair",
         "             ^",
     ),
@@ -452,7 +452,7 @@ const JOURNALS: [Row; 18] = [
     ),
     (
         b"1#1 open 0 rw | 1#1 fd 0\npolicy queue\n",
-        "f:2:1: read \"policy\"; it stands before all requests, and the first is in line 1",
+        "f:2:1: read \"policy\"; it has to come before all requests, and the first is on line 1",
         "policy queue",
         "^",
     ),
@@ -542,13 +542,13 @@ const JOURNALS: [Row; 18] = [
     ),
     (
         b"1#1 fork 2 | 1#1 ok # born\n",
-        "f:1:21: read \"#\"; a comment stands on a line of its own",
+        "f:1:21: read \"#\"; put a comment on a line of its own",
         "1#1 fork 2 | 1#1 ok # born",
         "                    ^",
     ),
     (
         b"proc 1 sent 0 taken 0 answered 0 live\n1#1 exit\n",
-        "f:2:1: read \"1#1\"; behind line 1, of the report, only lock, flock, wait and proc may stand",
+        "f:2:1: read \"1#1\"; after line 1, of the report, only lock, flock, wait and proc lines may come",
         "1#1 exit",
         "^",
     ),
@@ -887,15 +887,24 @@ fn told_at(alloc: Global, language: Language, line: u64) -> Result<String, Fail>
 #[test]
 fn lines_that_are_not_there(rt: HostRuntime) -> Result<(), Fail> {
     let script = told_at(rt.alloc(), Language::Script, 0)?;
-    assert_eq!(rt; script.as_str(), "f: it may have 1048576 bytes\n");
+    assert_eq!(rt;
+        script.as_str(),
+        "f: it is too long; it may have 1048576 bytes\n"
+    );
     let journal = told_at(rt.alloc(), Language::Journal, 0)?;
-    assert_eq!(rt; journal.as_str(), "f: it may have 67108864 bytes\n");
+    assert_eq!(rt;
+        journal.as_str(),
+        "f: it is too long; it may have 67108864 bytes\n"
+    );
     let history = told_at(rt.alloc(), Language::History, 0)?;
-    assert_eq!(rt; history.as_str(), "f: it may have 1099511627776 bytes\n");
+    assert_eq!(rt;
+        history.as_str(),
+        "f: it is too long; it may have 1099511627776 bytes\n"
+    );
     let behind = told_at(rt.alloc(), Language::History, 2)?;
     assert_eq!(rt;
         behind.as_str(),
-        "f:2: the line is behind the 7 bytes that were kept\n"
+        "f:2: the line comes after the 7 bytes that were kept\n"
     );
     Ok(())
 }

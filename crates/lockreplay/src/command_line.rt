@@ -46,32 +46,24 @@ pub fn options<'a>(alloc: Global, words: &'a [String]) -> Result<Options<'a>, cl
 fn command<'a>(alloc: Global) -> Result<Command<'a>, AllocError>
     ensures { IfOk result (λ command. app_of command ≡ command_line) }
 {
-    let threads = flag(
-        alloc,
-        "threads",
-        "A thread for each process that requests something",
-    );
+    let threads = flag(alloc, "threads", "Runs each process in a thread of its own");
     let explain = flag(
         alloc,
         "explain",
-        "Says what is in the way, and which locks go, behind #",
+        "Explains refusals, waits and lost locks, in # lines",
     );
     let state = option(
         alloc,
         "state",
         "N",
-        "Explains; tells the state behind entry N, all or changes",
+        "Explains; shows the state after event N, all or changes",
     );
-    let check = flag(
-        alloc,
-        "check",
-        "Checks an output, not a script; with no other flag",
-    );
+    let check = flag(alloc, "check", "Checks a log instead of replaying a script");
     let fail_on = option(
         alloc,
         "fail-on",
         "LIST",
-        "Has status 3 where the run shows one of these findings",
+        "Exits with 3 if the run shows one of these findings",
     );
     Command::new(alloc, "lockreplay")
         .version(VERSION)
@@ -90,9 +82,9 @@ pub fn file_argument<'a>(alloc: Global) -> Arg<'a>
     ensures rule { rule_of result ≡ spec.file_argument }
     ensures local { result.global ≡ false }
 {
-    Arg::new(alloc, "file").value_name("FILE").help(
-        "What is read; without it, or where it is -, standard input",
-    )
+    Arg::new(alloc, "file")
+        .value_name("FILE")
+        .help("What to read; standard input if there is none or it is -")
 }
 
 /// The flag of this name.
@@ -126,8 +118,8 @@ pub const ABOUT: &str =
 
 /// For whom the program is, and how a script is written. With what clap puts before it, its first 8 lines fill a screen of 24.
 pub const GUIDE: &str =
-    "Exit status: 0 replayed or legal, 3 illegal or found, 2 input or command line
-  refused or --help, 4 --limit, 1 FILE, read, write, memory or thread failed
+    "Exit status: 0 replayed or legal; 3 illegal, or a finding; 2 input or command
+  line refused, or --help; 4 --limit; 1 reading, writing, memory or a thread
 
   $ printf '1 open 0 rw\\n1 setlk 0 w set 0 100\\n' | lockreplay
   1#1 open 0 rw | 1#1 fd 0
@@ -136,26 +128,26 @@ pub const GUIDE: &str =
   proc 1 sent 2 taken 2 answered 2 live
 
 My program lost its lock:
-  lockreplay-trace LOG                  LOG is of strace -f -y -ttt -o LOG ..
-  lockreplay --explain FILE             a script of what the program asks for
+  strace -f -y -ttt -o LOG PROGRAM; lockreplay-trace LOG
+  lockreplay --explain FILE             a script of what the program requests
 
 I test my locking protocol:
   lockreplay --explore [--limit N] [--fail-on LIST] [--run FINDING] [FILE]
-    Takes the requests of a script's processes in every order, and tells what
-    some order shows, with its shortest run, and what none does: deadlock,
-    stuck, together, dropped, lost, busy, interrupted, killed, unborn. Status
-    3 where another than busy, interrupted and killed is possible, or one of
-    LIST.
+    Takes the requests of a script's processes in every order, and says which
+    findings an order shows, with a shortest run, and which none does:
+    deadlock, stuck, together, dropped, lost, busy, interrupted, killed,
+    unborn. Exits with 3 if one of LIST is possible; without LIST, if any but
+    busy, interrupted and killed is.
   lockreplay [--explain] --fail-on LIST [FILE]
-    Takes them in the script's order alone. LIST may name badfd, too: EBADF.
-  lockreplay --expect [FILE]            judges its lines # expect 1#2 EAGAIN
+    Takes them in the script's order alone. LIST may also name badfd: EBADF.
+  lockreplay --expect [FILE]            checks its lines # expect 1#2 EAGAIN
 
 I write a file server, or test one:
   lockreplay --check [FILE]             a log in its order, as a run is printed
   lockreplay --history [--limit N] [--open] [--runs] [--order [--state N]]
                        [FILE]           a log of clients that race
-    The library is in dehokuna(3), a server of it in lockfs(1), real processes
-    on a mount in locktest(1).
+    dehokuna(3) has the library, lockfs(1) a server on it; locktest(1) tests a
+    mount with real processes.
 
 Script: a line for each request, the number of a process, 1 to 16, and one of
   open FILE r|w|rw      dup FD          dup2 FD FD         close FD
@@ -164,14 +156,14 @@ Script: a line for each request, the number of a process, 1 to 16, and one of
   ogetlk|osetlk|osetlkw .. the same, of the open file description
   flock FD sh|ex|un [nb]
   fork PROCESS          signal PROCESS  kill PROCESS       exit
-  enter SECTION [sh]    leave SECTION   bail (exit where an error came last)
-  Process 1 lives at the start, another from its fork on; FILE is 0 to 63, FD 0
-  to 31; LENGTH 0 reaches to the largest offset. Before all requests there may
-  be policy queue, where a request waits behind earlier waits too, and limits
-  wide, with processes up to 64 and descriptors up to 255. Blank lines, and
-  those that begin with #, are skipped.
+  enter SECTION [sh]    leave SECTION   bail (exit after an error)
+  Process 1 is alive at the start, others from their fork on. FILE is 0 to 63,
+  FD 0 to 31; LENGTH 0 reaches to the largest offset. Before all requests there
+  may be policy queue, where a request also waits behind earlier waits, and
+  limits wide, for processes up to 64 and descriptors up to 255. Blank lines and
+  comments, which begin with #, are skipped.
 
-With --json, beside any of these, each line of the output is a JSON object;
---timeline draws a run, that of --explore --run too, a column for each process.
---diagnose, beside any, shows behind a fault its line, and what was wrong in it.
+With --json, added to any of these, each line of the output is a JSON object.
+--timeline draws a run, also that of --explore --run, a column for each process.
+--diagnose, added to any, shows the line of a fault, and what is wrong in it.
 man lockreplay has each request, the output, and the faults by number.";

@@ -32,7 +32,7 @@ pub enum Misuse {
     #[error("error: the argument '--timeline' can only be used with '--threads', or with '--explore' and '--run'\n\nFor more information, try '--help'.\n")]
     Timeline,
     /// `--expect` beside another flag than `--json`.
-    #[error("error: the argument '--expect' can only be used with '--json'\n\nFor more information, try '--help'.\n")]
+    #[error("error: the argument '--expect' can only be used with '--json' or '--diagnose'\n\nFor more information, try '--help'.\n")]
     Expect,
     /// `--fail-on` beside `--threads`: which run is printed is open there.
     #[error("error: the argument '--fail-on <LIST>' cannot be used with '--threads'\n\nFor more information, try '--help'.\n")]
@@ -56,7 +56,7 @@ pub enum Misuse {
     #[error("error: invalid value for '--run <FINDING>': deadlock, stuck, together, dropped, lost, busy, interrupted, killed or unborn\n\nFor more information, try '--help'.\n")]
     Run,
     /// `--fail-on` with what is no list of findings.
-    #[error("error: invalid value for '--fail-on <LIST>': findings, with commas between them\n\nFor more information, try '--help'.\n")]
+    #[error("error: invalid value for '--fail-on <LIST>': deadlock, stuck, together, dropped, lost, busy, interrupted, killed, unborn or, without --explore, badfd, with commas between them\n\nFor more information, try '--help'.\n")]
     FailOn,
 }
 
