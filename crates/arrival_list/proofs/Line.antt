@@ -1,8 +1,8 @@
 -- Items in order of arrival, one of which comes or goes: for `ArrivalList::push` and `ArrivalList::take`.
-use Rattle.std.proofs.Common.{◌≡◌, ℕ, ◌+◌, ◌<◌, ◌≤◌, Bool, true, false, cond, leb, subst, drop, take, length, append-nil, Option, Some, None, List, [], ◌∷◌, ◌++◌, refl, ap, ◌∙◌, sym, zero, suc, arith}
+use Rattle.std.proofs.Common.{◌≡◌, ℕ, ◌+◌, ◌<◌, Bool, true, false, cond, leb, subst, Some, None, List, [], ◌∷◌, ◌++◌, refl, ap, ◌∙◌, sym, zero, suc, arith}
 use Rattle.std.proofs.lemmas.Bool.Decides.{nat_tests}
-use Rattle.std.specs.Prelude.{slice_get, map}
-use Rattle.std.specs.List.{AllByRecursion, find, remove}
+use Rattle.std.specs.Prelude.{slice_get}
+use Rattle.std.specs.List.{AllByRecursion, remove}
 use Rattle.summary_tree.specs.Cuts.{IsCutBy, put_before, without_first}
 use Rattle.arrival_list.specs.declared.arrived.Arrived.{Arrived}
 use Rattle.arrival_list.specs.Arrivals.{AreRisingTo, is_from, items_of}

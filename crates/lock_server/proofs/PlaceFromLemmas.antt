@@ -1,12 +1,8 @@
 -- The first place of what is asked for: for `LockFile::first_of`, `place_of`, `place_leaving`, `next_conflicting` and what asks these.
-use Rattle.std.proofs.Common.{◌≡◌, ℕ, ◌+◌, ◌<◌, ◌≤◌, ◌∙◌, inl, inr, Bool, true, false, ◌&&◌, ◌==◌, Option, Some, None, List, [], ◌∷◌, All, Any, length, take, get_or, refl, sym, ap, subst, arith, zero, suc}
-use Rattle.std.specs.Prelude.{◌↔◌, IsSome, IsTrue, is_some, position, slice_get}
-use Rattle.std.proofs.lemmas.Grind.{common_steps}
-use Rattle.std.proofs.lemmas.Bool.{eqb-true, eq-eqb}
-use Rattle.std.proofs.lemmas.List.{take_at, length-take-le}
-use Rattle.std.proofs.lemmas.List.Quantifiers.{position-Some}
-use Rattle.std.proofs.lemmas.Option.{same_Some, slice_get_within, slice_get-get_or, get_or_from_slice_get}
-use Rattle.arrival_list.specs.Places.{IsFirstFrom, IsPlaceFrom, NonePassesFrom}
+use Rattle.std.proofs.Common.{◌≡◌, ℕ, ◌<◌, ◌≤◌, ◌∙◌, Bool, true, false, Option, Some, None, List, [], ◌∷◌, All, Any, take, get_or, refl, sym, subst, arith, zero, suc}
+use Rattle.std.specs.Prelude.{◌↔◌, IsTrue, is_some, slice_get}
+use Rattle.std.proofs.lemmas.Option.{slice_get_within, slice_get-get_or, get_or_from_slice_get}
+use Rattle.arrival_list.specs.Places.{IsPlaceFrom, NonePassesFrom}
 use Rattle.lock_server.proofs.GatheredOwnerLemmas.{Any-from_place, Any-place}
 
 -- some item passes just where the first place is told

@@ -1,6 +1,6 @@
 -- Who has neither room nor a place for a grant doesn't wait: for `LockFile::may_wait` and `LockFile::next_among`.
-use Rattle.std.proofs.Common.{◌≡◌, ◌≢◌, ℕ, ◌<◌, ◌≤◌, ◌∙◌, Bool, true, false, ◌&&◌, ◌==◌, None, Some, List, [], ◌∷◌, All, Any, length, get_or, refl, sym, ap, subst, cond, arith}
-use Rattle.std.specs.Prelude.{IsTrue, filter, slice_get}
+use Rattle.std.proofs.Common.{◌≡◌, ◌≢◌, ℕ, ◌∙◌, Bool, true, false, ◌&&◌, ◌==◌, List, [], ◌∷◌, Any, length, refl, sym, ap, subst, cond, arith}
+use Rattle.std.specs.Prelude.{IsTrue, filter}
 use Rattle.std.proofs.lemmas.Bool.{eqb-true, eq-eqb}
 use Rattle.std.proofs.lemmas.List.Elements.{All-cons, All-nil}
 use Rattle.std.proofs.lemmas.Option.{get_or_from_slice_get, slice_get_within}
@@ -16,7 +16,7 @@ use Rattle.lock_server.specs.declared.freed.Reach.{Reach}
 use Rattle.lock_server.specs.Asking.{is_among, reaches}
 use Rattle.lock_server.specs.Holding.{AreOfOthers}
 use Rattle.lock_server.specs.Pendings.{is_byte_wait, is_flock_wait, is_of_bytes, is_of_whole}
-use Rattle.lock_server.specs.Room.{HasRoom, byte_waits}
+use Rattle.lock_server.specs.Room.{HasRoom}
 use Rattle.lock_server.proofs.ListLemmas.{Any-here, Any-there}
 
 -- no wait for byte locks, and none for a flock lock, of the owner is one for either

@@ -1,4 +1,4 @@
-use Rattle.std.proofs.Common.{arith, sym, subst, List, length, ◌++◌}
+use Rattle.std.proofs.Common.{arith, sym, subst, List}
 use Rattle.std.proofs.lemmas.Grind.{common_steps}
 use Rattle.std.proofs.lemmas.List.{length-append, map-append}
 use Rattle.arrival_list.specs.Arrivals.{items_of}

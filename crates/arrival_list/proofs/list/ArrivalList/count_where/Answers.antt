@@ -1,8 +1,7 @@
-use Rattle.std.proofs.Common.{◌≡◌, ◌<◌, ◌^◌, [], List, length, ap, ◌∙◌, sym, refl, subst, arith}
+use Rattle.std.proofs.Common.{◌<◌, ◌^◌, [], List, length, ap, ◌∙◌, refl, arith}
 use Rattle.std.proofs.lemmas.Grind.{common_steps}
 use Rattle.std.specs.List.{filter}
 use Rattle.summary_tree.specs.Contents.{Contents}
-use Rattle.arrival_list.specs.Arrivals.{items_of}
 use Rattle.arrival_list.proofs.Kept.{as_many}
 use Rattle.arrival_list.proofs.list.ArrivalList.count_where.Goals as goal
 

@@ -1,7 +1,6 @@
-use Rattle.std.proofs.Common.{◌≡◌, ◌+◌, ◌<◌, ◌≤◌, ◌^◌, ◌⊎◌, inl, inr, ◌++◌, false, length, subst, arith}
+use Rattle.std.proofs.Common.{◌≡◌, inl, inr, ◌++◌, length, subst, arith}
 use Rattle.std.proofs.lemmas.Grind.{common_steps}
 use Rattle.std.proofs.lemmas.List.{length-append}
-use Rattle.std.specs.List.{list_any}
 use Rattle.arrival_list.specs.Seeking.{HasSought}
 use Rattle.arrival_list.specs.Places.{NonePassesFrom}
 use Rattle.arrival_list.proofs.Seen.{nothing_still}

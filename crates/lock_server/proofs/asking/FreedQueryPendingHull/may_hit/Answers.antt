@@ -1,4 +1,4 @@
-use Rattle.std.proofs.Common.{◌≡◌, ◌≤◌, ◌==◌, sym, subst, true, false, arith}
+use Rattle.std.proofs.Common.{◌≡◌, ◌==◌, sym, subst, true, false, arith}
 use Rattle.std.specs.List.{list_any}
 use Rattle.std.proofs.lemmas.Bool.{eqb-true}
 use Rattle.lock_server.specs.declared.freed.Freed.{Freed}

@@ -1,4 +1,4 @@
-use Rattle.std.proofs.Common.{◌&&◌, ◌==◌, ◌≡◌, ◌≤◌, arith}
+use Rattle.std.proofs.Common.{◌&&◌, ◌==◌, arith}
 use Rattle.std.proofs.lemmas.Bool.{eqb-true}
 use Rattle.lock_server.specs.Asking.{is_of_kind}
 use Rattle.lock_server.proofs.AskingLemmas.{both, none_hits}

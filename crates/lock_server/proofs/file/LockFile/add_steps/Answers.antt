@@ -1,4 +1,4 @@
-use Rattle.std.proofs.Common.{◌≡◌, ◌+◌, ◌<◌, ◌≤◌, ◌^◌, ◌==◌, ◌&&◌, None, Some, length, take, subst, arith}
+use Rattle.std.proofs.Common.{◌+◌, ◌==◌, ◌&&◌, length, take, subst, arith}
 use Rattle.std.proofs.lemmas.Grind.{common_steps}
 use Rattle.arrival_list.specs.Places.{IsPlaceFrom}
 use Rattle.lock_server.specs.declared.Pending.{Pending}

@@ -1,4 +1,4 @@
-use Rattle.std.proofs.Common.{◌∙◌, sym, subst}
+use Rattle.std.proofs.Common.{sym, subst}
 use Rattle.std.specs.Prelude.{◌↔◌, Bool, IsTrue, Any, take}
 use Rattle.lock_server.specs.Settling.{PendingsConflict}
 use Rattle.lock_server.specs.FileView.{file_state}

@@ -1,4 +1,4 @@
-use Rattle.std.proofs.Common.{◌≡◌, ◌∙◌, None, Some, sym, arith}
+use Rattle.std.proofs.Common.{◌∙◌, sym, arith}
 use Rattle.std.proofs.lemmas.Grind.{common_steps}
 use Rattle.lock_server.specs.FileView.{file_state}
 use Rattle.lock_server.proofs.ConflictingLemmas.{first_conflict, no_conflict}

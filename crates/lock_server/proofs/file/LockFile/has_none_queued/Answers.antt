@@ -1,8 +1,7 @@
-use Rattle.std.proofs.Common.{◌≡◌, ◌≤◌, ◌==◌, ◌&&◌, None, Some, subst, arith}
+use Rattle.std.proofs.Common.{◌≡◌, ◌==◌, ◌&&◌, subst, arith}
 use Rattle.std.proofs.lemmas.Grind.{common_steps}
 use Rattle.std.proofs.lemmas.Bool.{eq-eqb}
 use Rattle.arrival_list.specs.Places.{IsPlaceFrom}
-use Rattle.lock_server.specs.declared.Pending.{Pending}
 use Rattle.lock_server.specs.declared.asking.Kind.TheVariants.{Any}
 use Rattle.lock_server.specs.Asking.{is_of_kind}
 use Rattle.lock_server.specs.FileView.{file_state}

@@ -1,4 +1,4 @@
-use Rattle.std.proofs.Common.{◌≤◌, Option, ℕ, None, Some, refl, subst, arith}
+use Rattle.std.proofs.Common.{subst, arith}
 use Rattle.std.proofs.lemmas.Grind.{common_steps}
 use Rattle.arrival_list.specs.Places.{IsPlaceFrom}
 use Rattle.lock_server.specs.Asking.{are_conflicting, NoneConflicts}

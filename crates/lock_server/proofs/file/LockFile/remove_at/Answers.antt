@@ -1,5 +1,4 @@
-use Rattle.std.proofs.Common.{◌≡◌, ◌∙◌, ◌++◌, suc, inl, inr, Some, take, drop, get_or, refl, sym, arith}
-use Rattle.std.specs.Prelude.{slice_get}
+use Rattle.std.proofs.Common.{◌∙◌, inl, inr, refl, sym, arith}
 use Rattle.std.proofs.lemmas.Option.{get_or_from_slice_get, slice_get_cases}
 use Rattle.lock_server.specs.FileView.{file_state, keeps_place}
 use Rattle.lock_server.proofs.FileLemmas.{leaves_at, ranges_left, reserved_left, room_left}

@@ -1,5 +1,5 @@
-use Rattle.std.proofs.Common.{◌≡◌, ◌∙◌, ◌≤◌, Some, sym, subst, arith}
-use Rattle.std.specs.Prelude.{IfNone, slice_get}
+use Rattle.std.proofs.Common.{◌≡◌, ◌∙◌, Some, sym, subst, arith}
+use Rattle.std.specs.Prelude.{slice_get}
 use Rattle.std.proofs.lemmas.Grind.{common_steps}
 use Rattle.std.proofs.lemmas.Option.{same_Some, slice_get_cases, slice_get_within}
 use Rattle.lock_server.specs.declared.Pending.{Pending}

@@ -1,4 +1,4 @@
-use Rattle.std.proofs.Common.{ℕ, ◌≡◌, Any, sym, subst, take}
+use Rattle.std.proofs.Common.{◌≡◌, Any, sym, subst, take}
 use Rattle.std.specs.Prelude.{OnOk}
 use Rattle.wait_core.specs.Blocking.{WaitsConflict}
 use Rattle.lock_server.specs.Blockers.{AddsOwners}

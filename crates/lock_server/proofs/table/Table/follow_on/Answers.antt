@@ -1,4 +1,4 @@
-use Rattle.std.proofs.Common.{ℕ, ◌+◌, ◌<◌, ◌≤◌, ◌^◌, ◌∙◌, sym, subst, Contains, arith}
+use Rattle.std.proofs.Common.{ℕ, ◌∙◌, sym, subst, Contains, arith}
 use Rattle.std.proofs.lemmas.Grind.{common_steps}
 use Rattle.std.proofs.lemmas.Option.{same_Some}
 use Rattle.lock_server.specs.declared.Pending.{Pending}
