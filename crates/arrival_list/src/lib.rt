@@ -1,5 +1,5 @@
-//! Items in order of arrival, in a balanced tree: one is found by its place or by what is looked for, and taken out, in a number of steps
-//! that grows with the logarithm of their number.
+//! Items in order of arrival, in a balanced tree: one is found by its place, by how many each subtree has, or by what is looked for, where
+//! the summary of a subtree rules that out in it.
 #![tactic(auto)]
 
 mod arrived;
