@@ -30,8 +30,9 @@ released:
 # want of memory is made at one place, that each edit still compiles, and the conformance tools' tests but for those that a busy machine can
 # upset.
 WORKED := $(basename $(wildcard tests/worked-scripts/*.out)) $(wildcard tests/threads/*)
+# (one proof a processor: by its own guess of the memory that the two largest crates take, rt leaves processors idle beside them)
 test:
-	tools/gate-line rt ci
+	RT_JOBS=$${RT_JOBS:-$$(nproc)} tools/gate-line rt ci
 	sh tests/command-line.sh $(PROGRAM)
 	sh tests/command-line.sh $(PROGRAM).by-rattle
 	sh tests/lines.sh $(PROGRAM)
