@@ -4,6 +4,7 @@ from __future__ import annotations
 
 import errno
 import random
+import tempfile
 import unittest
 from collections import Counter
 from pathlib import Path
@@ -11,7 +12,7 @@ from unittest import mock
 
 from tests import planted, second_opinion
 from torture.history import LARGEST_OFFSET, Manner, Writer
-from torture.judging import HistoryJudge, Verdict, shorten
+from torture.judging import OVER_LIMIT, HistoryJudge, Verdict, shorten
 from torture.log import Call, Log, Process, Record
 from torture.outages import Outage
 
@@ -416,6 +417,17 @@ class SecondOpinion(unittest.TestCase):
         for name, (text, right) in JUDGED.items():
             with self.subTest(name):
                 self.assertEqual(second_opinion.judge(text, may_stay_open=False), right)
+
+
+class Time(unittest.TestCase):
+    """How long a history is judged."""
+
+    def test_a_history_that_takes_too_long_is_over_the_limit(self) -> None:
+        with tempfile.TemporaryDirectory() as folder:
+            slow = Path(folder, "slow")
+            slow.write_text("#!/bin/sh\nexec sleep 30\n")
+            slow.chmod(0o755)
+            self.assertEqual(HistoryJudge(slow, seconds=0.1).judge(""), Verdict(OVER_LIMIT, "not judged in 0.1 s"))
 
 
 class ByHand(HistoryJudge):

@@ -24,15 +24,20 @@ class Verdict:
 
 @dataclass(frozen=True)
 class HistoryJudge:
-    """lockreplay, with the limit on possibilities that it gets, or its own."""
+    """lockreplay, with the limit on possibilities that it gets, or its own, and for so long at most, where that is said."""
 
     program: Path
     limit: Optional[int] = None
+    seconds: Optional[float] = None
 
     def judge(self, text: str) -> Verdict:
-        """Judges a history. Raises CouldNotRun where the program refuses it."""
+        """Judges a history; one that takes too long is over the limit. Raises CouldNotRun where the program refuses it."""
         command = [str(self.program), "--history", "--open", *(["--limit", str(self.limit)] if self.limit else [])]
-        ended = subprocess.run(command, input=text.encode(), stdout=subprocess.PIPE, stderr=subprocess.PIPE, check=False)
+        how = {"stdout": subprocess.PIPE, "stderr": subprocess.PIPE, "check": False, "timeout": self.seconds}
+        try:
+            ended = subprocess.run(command, input=text.encode(), **how)
+        except subprocess.TimeoutExpired:
+            return Verdict(OVER_LIMIT, f"not judged in {self.seconds:g} s")
         if ended.returncode not in (LEGAL, ILLEGAL, OVER_LIMIT):
             raise CouldNotRun(f"{self.program} --history ended by status {ended.returncode}: {ended.stderr.decode(errors='replace').strip()}")
         says = ended.stdout.decode().partition("\n")[0]

@@ -33,6 +33,8 @@ CLIENTS = 9
 FEWER_CLIENTS, REQUESTS, TIDY, PATIENCE_S = 6, 60, 90, 20.0
 # Beside rounds in which a node died this many others are judged.
 OTHERS = 50
+# A round that isn't judged in so long is told as not judged: one in many needs minutes.
+JUDGING_S = 30.0
 MILLISECOND = 1_000_000
 # How long a look at both clocks may take.
 LOOK = MILLISECOND // 10
@@ -285,7 +287,7 @@ def race_while_nodes_die(nodes: Nodes, seconds: float = 60, shortens: bool = Tru
     for each in ran:
         (touched if any(is_touched(each.log, outage) for outage in outages) else others).append(each)
     chosen = touched + others[:: max(1, len(others) // OTHERS)]
-    judge = HistoryJudge(Path(os.environ["LOCKREPLAY"]))
+    judge = HistoryJudge(Path(os.environ["LOCKREPLAY"]), seconds=JUDGING_S)
     manner = Manner(releases_late=True, tells_owners=False)
     texts = [each.history(manner, nodes.count, outages) for each in chosen]
     verdicts = []
