@@ -177,7 +177,7 @@ def lone(nodes: Nodes, tries: int = 20) -> str:
         with open_client(nodes.mount(1) / "lone") as other:
             require(other.ask("lock", 0, "ex", 0, 1, seconds=30) == "ok", "node 1 doesn't get the lock")
             got = other.at
-        loop.send_signal(signal.SIGINT)
+        loop.terminate()
         last = seen.read_text().splitlines()[-1]
         if " got " in last:
             held += 1

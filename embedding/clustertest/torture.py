@@ -4,6 +4,7 @@ that is told EIO or whose mount is gone has lost its lock and begins anew."""
 
 from __future__ import annotations
 
+import contextlib
 import errno
 import fcntl
 import json
@@ -15,6 +16,7 @@ import subprocess
 import sys
 import time
 from pathlib import Path
+from typing import Iterator
 
 from clustertest.faults import comes_back
 from clustertest.nodes import Nodes, require
@@ -151,15 +153,19 @@ def start_worker(nodes: Nodes, me: int, seconds: float, seed: int) -> subprocess
     return subprocess.Popen(words, stdout=subprocess.PIPE, text=True)
 
 
-def torture(nodes: Nodes) -> str:
-    """Critical sections under faults; then all nodes have one table."""
-    seed = int(os.environ.get("SEED", "1"))
-    (nodes.folder / "records").write_bytes(bytes(RECORDS * SIZE))
-    print(f"# seed {seed}", flush=True)
+@contextlib.contextmanager
+def at_work(nodes: Nodes, seed: int) -> Iterator[list[subprocess.Popen[str]]]:
+    """Workers on all mounts, none of which outlives the test."""
     workers = [start_worker(nodes, me, SECONDS, 100 * seed + me) for me in range(WORKERS)]
-    count = Faults(nodes, seed).happen(SECONDS - 20)
-    for node in nodes.all():
-        comes_back(nodes, node)
+    try:
+        yield workers
+    finally:
+        for worker in workers:
+            worker.kill()
+
+
+def tally_of(workers: list[subprocess.Popen[str]]) -> dict[str, int]:
+    """What the workers did in all, when they end."""
     total = {"sections": 0, "lost": 0, "wrong": 0, "refused": 0}
     for worker in workers:
         lines = worker.communicate(timeout=60)[0].splitlines()
@@ -167,6 +173,19 @@ def torture(nodes: Nodes) -> str:
         require(worker.returncode == 0 and bool(lines), "a worker failed")
         for name, number in json.loads(lines[-1]).items():
             total[name] += number
+    return total
+
+
+def torture(nodes: Nodes) -> str:
+    """Critical sections under faults; then all nodes have one table."""
+    seed = int(os.environ.get("SEED", "1"))
+    (nodes.folder / "records").write_bytes(bytes(RECORDS * SIZE))
+    print(f"# seed {seed}", flush=True)
+    with at_work(nodes, seed) as workers:
+        count = Faults(nodes, seed).happen(SECONDS - 20)
+        for node in nodes.all():
+            comes_back(nodes, node)
+        total = tally_of(workers)
     nodes.wait_for_agreement(list(nodes.all()))
     views = "".join(nodes.told(node) for node in nodes.all())
     total.update({name: views.count(said) for name, said in SAID.items()})
