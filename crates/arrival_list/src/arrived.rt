@@ -29,18 +29,14 @@ impl<T: Copy, S: Summary<T> + Copy> Summary<Arrived<T>> for Counted<S> {
         }
     }
 
-    fn one(arrived: &Arrived<T>) -> Counted<S> {
-        Counted {
-            count: 1,
-            summary: S::one(&arrived.item),
-        }
+    fn add(&mut self, arrived: &Arrived<T>) {
+        self.count = self.count.saturating_add(1);
+        self.summary.add(&arrived.item);
     }
 
-    fn join(self, more: Counted<S>) -> Counted<S> {
-        Counted {
-            count: self.count.saturating_add(more.count),
-            summary: self.summary.join(more.summary),
-        }
+    fn append(&mut self, more: &Counted<S>) {
+        self.count = self.count.saturating_add(more.count);
+        self.summary.append(&more.summary);
     }
 }
 

@@ -19,12 +19,12 @@ impl Summary<u64> for Greatest {
         Greatest(0)
     }
 
-    fn one(number: &u64) -> Greatest {
-        Greatest(*number)
+    fn add(&mut self, number: &u64) {
+        self.0 = self.0.max(*number);
     }
 
-    fn join(self, more: Greatest) -> Greatest {
-        Greatest(self.0.max(more.0))
+    fn append(&mut self, more: &Greatest) {
+        self.0 = self.0.max(more.0);
     }
 }
 

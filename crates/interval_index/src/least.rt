@@ -71,28 +71,17 @@ impl Least {
     }
 
     /// That of the runs of both.
-    pub(crate) fn join(self, more: Least) -> Least
-        ensures { (runs others : List Run) → TellsLeast self runs → TellsLeast more others → TellsLeast result (runs ++ others) }
+    pub(crate) fn append(&mut self, more: Least)
+        ensures { (runs others : List Run) → TellsLeast self.old runs → TellsLeast more others → TellsLeast self.new (runs ++ others) }
     {
-        let last = self.last.min(more.last);
+        self.last = self.last.min(more.last);
         if self.holder == more.holder {
-            Least {
-                last,
-                holder: self.holder,
-                other: lesser(self.other, more.other),
-            }
+            self.other = lesser(self.other, more.other);
         } else if is_as_early(self.holder, more.holder) {
-            Least {
-                last,
-                holder: self.holder,
-                other: lesser(self.other, more.holder),
-            }
+            self.other = lesser(self.other, more.holder);
         } else {
-            Least {
-                last,
-                holder: more.holder,
-                other: lesser(more.other, self.holder),
-            }
+            self.other = lesser(more.other, self.holder);
+            self.holder = more.holder;
         }
     }
 

@@ -76,27 +76,18 @@ impl Reach {
     }
 
     /// That of the runs of both.
-    fn join(self, more: Reach) -> Reach
-        ensures { (kept : Run → Bool) (runs others : List Run) → TellsOf kept self runs → TellsOf kept more others → TellsOf kept result (runs ++ others) }
+    fn append(&mut self, more: Reach)
+        ensures { (kept : Run → Bool) (runs others : List Run) → TellsOf kept self.old runs → TellsOf kept more others → TellsOf kept self.new (runs ++ others) }
     {
         if self.holder == more.holder {
-            Reach {
-                holder: self.holder,
-                last: later(self.last, more.last),
-                other: later(self.other, more.other),
-            }
+            self.last = later(self.last, more.last);
+            self.other = later(self.other, more.other);
         } else if is_as_late(self.last, more.last) {
-            Reach {
-                holder: self.holder,
-                last: self.last,
-                other: later(self.other, more.last),
-            }
+            self.other = later(self.other, more.last);
         } else {
-            Reach {
-                holder: more.holder,
-                last: more.last,
-                other: later(more.other, self.last),
-            }
+            self.other = later(more.other, self.last);
+            self.last = more.last;
+            self.holder = more.holder;
         }
     }
 
@@ -139,24 +130,20 @@ impl Summary<Run> for Reaches {
         }
     }
 
-    fn one(run: &Run) -> Reaches {
+    fn add(&mut self, run: &Run) {
         let reach = Reach::of(run);
         let writes = match run.mode {
             Mode::Read => Reach::nobody(),
             Mode::Write => reach,
         };
-        Reaches {
-            all: reach,
-            writes,
-            least: Least::of(run),
-        }
+        self.all.append(reach);
+        self.writes.append(writes);
+        self.least.append(Least::of(run));
     }
 
-    fn join(self, more: Reaches) -> Reaches {
-        Reaches {
-            all: self.all.join(more.all),
-            writes: self.writes.join(more.writes),
-            least: self.least.join(more.least),
-        }
+    fn append(&mut self, more: &Reaches) {
+        self.all.append(more.all);
+        self.writes.append(more.writes);
+        self.least.append(more.least);
     }
 }

@@ -1,5 +1,5 @@
 //! Within which numbers waits lie.
-ghost use Rattle.std.specs.Prelude.{◌≡◌, ℕ, ◌≤◌, false};
+ghost use Rattle.std.specs.Prelude.{◌≡◌, ◌∷◌, [], ℕ, ◌≤◌, false};
 ghost use Rattle.lock_server.specs.Freed.{Reaches};
 ghost use Rattle.lock_server.specs.Hulls.{AreWithin, Holds, IsWithin};
 
@@ -60,6 +60,22 @@ impl Between {
 }
 
 impl Hull {
+    /// Within which numbers the wait lies.
+    fn of(wait: &Pending) -> Hull
+        ensures { AreWithin result (wait.now ∷ []) }
+    {
+        let (bytes, whole) = match wait.family {
+            Family::Bytes => (Between::of(wait.span.first, wait.span.last), false),
+            Family::Whole => (Between::none(), true),
+        };
+        Hull {
+            tickets: Between::of(wait.ticket, wait.ticket),
+            owners: Between::of(wait.owner, wait.owner),
+            bytes,
+            whole,
+        }
+    }
+
     /// Whether some of the waits may be for a lock there.
     pub(crate) fn meets(&self, reach: Reach) -> bool
         ensures { result ≡ false → (wait : Pending) → IsWithin self.now wait → Reaches reach wait → ⊥ }
@@ -83,25 +99,14 @@ impl Summary<Pending> for Hull {
         }
     }
 
-    fn one(wait: &Pending) -> Hull {
-        let (bytes, whole) = match wait.family {
-            Family::Bytes => (Between::of(wait.span.first, wait.span.last), false),
-            Family::Whole => (Between::none(), true),
-        };
-        Hull {
-            tickets: Between::of(wait.ticket, wait.ticket),
-            owners: Between::of(wait.owner, wait.owner),
-            bytes,
-            whole,
-        }
+    fn add(&mut self, wait: &Pending) {
+        self.append(&Hull::of(wait));
     }
 
-    fn join(self, more: Hull) -> Hull {
-        Hull {
-            tickets: self.tickets.join(more.tickets),
-            owners: self.owners.join(more.owners),
-            bytes: self.bytes.join(more.bytes),
-            whole: self.whole || more.whole,
-        }
+    fn append(&mut self, more: &Hull) {
+        self.tickets = self.tickets.join(more.tickets);
+        self.owners = self.owners.join(more.owners);
+        self.bytes = self.bytes.join(more.bytes);
+        self.whole = self.whole || more.whole;
     }
 }

@@ -21,7 +21,7 @@ impl<T: Copy, S: Summary<T> + Copy> Model for Block<T, S> {
 
     ghost view = { λ a. a.items.items };
 
-    ghost invariant = { λ a. S.tells a.summary a.items.items × (32 ≤ vec_capacity a.items) × (vec_len a.items ≤ 32) };
+    ghost invariant = { λ a. S.tells a.summary a.items.items × (16 ≤ vec_capacity a.items) × (vec_len a.items ≤ 16) };
 }
 
 impl<T: Copy, S: Summary<T> + Copy> Block<T, S> {
@@ -39,14 +39,14 @@ impl<T: Copy, S: Summary<T> + Copy> Block<T, S> {
     /// How many items there are.
     pub(crate) fn len(&self) -> usize
         ensures len { result ≡ length self.now }
-        ensures few { result ≤ 32 }
+        ensures few { result ≤ 16 }
     {
         self.items.len()
     }
 
     /// How many items there are beyond those that a part of a split block may have.
     pub(crate) fn excess(&self) -> u64
-        ensures { result ≡ length self.now - 24 }
+        ensures { result ≡ length self.now - 12 }
     {
         self.items.len().saturating_sub(PART) as u64
     }
@@ -169,7 +169,7 @@ impl<T: Copy, S: Summary<T> + Copy> Block<T, S> {
     /// Puts an item in before the first that stands at a place or behind it.
     #[tactic(auto, using(crate::proofs::Splits::put_at_place, crate::proofs::Splits::length_put, crate::proofs::Splits::place_le))]
     pub(crate) fn put<C: Cut<T>>(&mut self, cut: &C, item: T)
-        requires { length self.old < 32 }
+        requires { length self.old < 16 }
         ensures items { self.new ≡ put_before (C.is_behind cut.now) item self.old }
         ensures count { length self.new ≡ length self.old + 1 }
     {
@@ -180,14 +180,14 @@ impl<T: Copy, S: Summary<T> + Copy> Block<T, S> {
     /// The same where there is no room: some of the items go into an empty block.
     #[tactic(auto, using(crate::proofs::Splits::put_at_place, crate::proofs::Splits::length_put, crate::proofs::Splits::place_le))]
     pub(crate) fn put_in_full<C: Cut<T>>(&mut self, cut: &C, item: T, next: &mut Self)
-        requires full { length self.old ≡ 32 }
+        requires full { length self.old ≡ 16 }
         requires empty { next.old ≡ [] }
         ensures items { self.new ++ next.new ≡ put_before (C.is_behind cut.now) item self.old }
-        ensures count { length self.new + length next.new ≡ 33 }
+        ensures count { length self.new + length next.new ≡ 17 }
         ensures filled { 0 < length self.new }
         ensures next { 0 < length next.new }
-        ensures few { length self.new ≤ 24 }
-        ensures few_next { length next.new ≤ 24 }
+        ensures few { length self.new ≤ 12 }
+        ensures few_next { length next.new ≤ 12 }
     {
         let place = self.place_of(cut);
         self.insert_in_full(place, item, next);
@@ -196,7 +196,7 @@ impl<T: Copy, S: Summary<T> + Copy> Block<T, S> {
     /// Puts an item before the one that stands at a place.
     fn insert(&mut self, place: usize, item: T)
         requires place { place ≤ length self.old }
-        requires room { length self.old < 32 }
+        requires room { length self.old < 16 }
         ensures { self.new ≡ insert self.old place item }
     {
         self.items.insert(place, item).unwrap();
@@ -206,13 +206,13 @@ impl<T: Copy, S: Summary<T> + Copy> Block<T, S> {
     /// The same where there is no room: some of the items go into an empty block.
     fn insert_in_full(&mut self, place: usize, item: T, next: &mut Self)
         requires place { place ≤ length self.old }
-        requires full { length self.old ≡ 32 }
+        requires full { length self.old ≡ 16 }
         requires empty { next.old ≡ [] }
         ensures items { self.new ++ next.new ≡ insert self.old place item }
         ensures filled { 0 < length self.new }
         ensures next { 0 < length next.new }
-        ensures few { length self.new ≤ 24 }
-        ensures few_next { length next.new ≤ 24 }
+        ensures few { length self.new ≤ 12 }
+        ensures few_next { length next.new ≤ 12 }
     {
         let middle = middle_for(place);
         self.move_from(middle, next);
@@ -270,10 +270,10 @@ impl<T: Copy, S: Summary<T> + Copy> Block<T, S> {
 /// Where a full block is split that gets an item at a place: in halves, but where the place is near an end, beside it, so that
 /// items that come in order leave fuller blocks behind.
 fn middle_for(place: usize) -> usize
-    ensures front { 8 ≤ result }
-    ensures back { result ≤ 24 }
-    ensures in_front { place ≤ result → result < 24 }
-    ensures behind { result < place → 8 < result }
+    ensures front { 4 ≤ result }
+    ensures back { result ≤ 12 }
+    ensures in_front { place ≤ result → result < 12 }
+    ensures behind { result < place → 4 < result }
 {
     if place > PART {
         PART
@@ -290,7 +290,7 @@ fn summary_of<T: Copy, S: Summary<T> + Copy>(items: &[T]) -> S
 {
     let mut summary = S::none();
     for item in items {
-        summary = summary.join(S::one(item));
+        summary.add(item);
     }
     summary
 }

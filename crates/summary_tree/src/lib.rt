@@ -15,13 +15,13 @@ mod tree;
 pub use tree::Tree;
 
 /// How many items a block holds at most.
-const BLOCK: usize = 32;
+const BLOCK: usize = 16;
 
 /// How many items each part of a full block has at most that was split for one more.
-const PART: usize = 24;
+const PART: usize = 12;
 
 /// How many items are put into such a part until it is split, or more.
-const PUTS: u64 = 9;
+const PUTS: u64 = 5;
 
 /// What is kept of the items of a subtree.
 pub trait Summary<T> {
@@ -32,13 +32,13 @@ pub trait Summary<T> {
     fn none() -> Self
         ensures { tells result [] };
 
-    /// That of one item.
-    fn one(item: &T) -> Self
-        ensures { tells result (item.now ∷ []) };
+    /// One item more, behind the others.
+    fn add(&mut self, item: &T)
+        ensures { (items : List T) → tells self.old items → tells self.new (items ++ item.now ∷ []) };
 
-    /// That of the items of this one and then those of the other.
-    fn join(self, other: Self) -> Self
-        ensures { (items others : List T) → tells self items → tells other others → tells result (items ++ others) };
+    /// The items of another one more, behind the others.
+    fn append(&mut self, more: &Self)
+        ensures { (items others : List T) → tells self.old items → tells more.now others → tells self.new (items ++ others) };
 }
 
 /// What is looked for: a test of items, and a test of summaries that passes over only what has no such item.

@@ -11,10 +11,11 @@ use std::mem;
 fn summary_of<T: Copy, S: Summary<T> + Copy>(node: &Node<T, S>) -> S
     ensures { S.tells result (items_of node.now) }
 {
-    let behind = node.right.summary();
-    let rest = node.block.summary().join(behind);
-    let before = node.left.summary();
-    before.join(rest)
+    let mut rest = node.block.summary();
+    rest.append(&node.right.summary());
+    let mut summary = node.left.summary();
+    summary.append(&rest);
+    summary
 }
 
 /// The tree of a node whose sides are balanced, with its counts and its summary made anew.

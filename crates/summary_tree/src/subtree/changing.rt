@@ -23,7 +23,7 @@ impl<T: Copy, S: Summary<T> + Copy> Subtree<T, S> {
     /// Puts an item in before the first that stands at a place or behind it; a new node, if it wants one, is taken from the
     /// places. It takes no memory.
     ///
-    /// A block that is split gives up its excess of eight, so a place goes for that and one put, or for nine puts.
+    /// A block that is split gives up its excess of four, so a place goes for that and one put, or for five puts.
     pub(crate) fn put<C: Cut<T>>(&mut self, cut: &C, item: T, places: &mut Places<T, S>)
         requires cut { IsCutBy (C.is_behind cut.now) self.old.items }
         requires place { 0 < places.old }
@@ -33,7 +33,7 @@ impl<T: Copy, S: Summary<T> + Copy> Subtree<T, S> {
         ensures nodes { IsOneMoreAtMost self.new.nodes self.old.nodes }
         ensures places { IsOneMoreAtMost places.old places.new }
         ensures first { self.old.items ≡ [] → self.new.excess ≡ 0 }
-        ensures paid { 0 < length self.old.items → self.new.excess + 9 * places.old ≤ self.old.excess + 9 * places.new + 1 }
+        ensures paid { 0 < length self.old.items → self.new.excess + 5 * places.old ≤ self.old.excess + 5 * places.new + 1 }
     {
         match mem::replace(&mut self.link, Link::Empty) {
             Link::Empty => *self = of_one(item, places.take()),
@@ -86,7 +86,7 @@ impl<T: Copy, S: Summary<T> + Copy> Subtree<T, S> {
         requires fits { length node.value.block + length self.old.items < 2 ^ 64 }
         ensures items { self.new.items ≡ node.value.block ++ self.old.items }
         ensures nodes { self.new.nodes ≡ self.old.nodes + 1 }
-        ensures excess { self.new.excess ≡ (length node.value.block - 24) + self.old.excess }
+        ensures excess { self.new.excess ≡ (length node.value.block - 12) + self.old.excess }
     {
         match mem::replace(&mut self.link, Link::Empty) {
             Link::Empty => {
@@ -106,7 +106,7 @@ impl<T: Copy, S: Summary<T> + Copy> Subtree<T, S> {
         requires { 0 < self.old.nodes }
         ensures items { self.old.items ≡ result.value.block ++ self.new.items }
         ensures nodes { self.old.nodes ≡ self.new.nodes + 1 }
-        ensures excess { self.old.excess ≡ (length result.value.block - 24) + self.new.excess }
+        ensures excess { self.old.excess ≡ (length result.value.block - 12) + self.new.excess }
         ensures filled { 0 < length result.value.block }
     {
         let Link::Fork(mut node) = mem::replace(&mut self.link, Link::Empty) else {
@@ -174,7 +174,7 @@ fn put_here<T: Copy, S: Summary<T> + Copy, C: Cut<T>>(
     ensures count { length result.items ≡ length node.value.left.items + length node.value.block + length node.value.right.items + 1 }
     ensures nodes { IsOneMoreAtMost result.nodes (nodes_of node.value) }
     ensures places { IsOneMoreAtMost places.old places.new }
-    ensures paid { result.excess + 9 * places.old ≤ excess_of node.value + 9 * places.new + 1 }
+    ensures paid { result.excess + 5 * places.old ≤ excess_of node.value + 5 * places.new + 1 }
 {
     if node.block.len() < BLOCK {
         node.block.put(cut, item);
