@@ -17,7 +17,7 @@ use std::alloc::Global;
 #[derive(Drop)]
 pub struct RangeList {
     /// The runs, by rising bytes: the largest ranges that have one mode throughout.
-    runs: SmallVec<(Mode, Span), 4>,
+    runs: SmallVec<(Mode, Span), 2>,
     /// For how many further sets room is held, however much more there is.
     room: usize,
     /// Whether each run is known to be a read lock: then nobody who wants to read needs to look for one in the way.

@@ -7,7 +7,7 @@ use smallvec::SmallVec;
 
 /// Puts these runs in the place of those from `start` up to `end`, in room that is there: over as many of them as there are,
 /// and those behind close up to what stands there, or make room for the rest.
-pub fn splice(runs: &mut SmallVec<(Mode, Span), 4>, start: usize, end: usize, put: &[(Mode, Span)])
+pub fn splice(runs: &mut SmallVec<(Mode, Span), 2>, start: usize, end: usize, put: &[(Mode, Span)])
     requires ordered { start ≤ end }
     requires within { end ≤ small_vec_len runs.old }
     requires room { small_vec_len runs.old + length put.now ≤ runs.old.capacity + (end - start) }
@@ -22,7 +22,7 @@ pub fn splice(runs: &mut SmallVec<(Mode, Span), 4>, start: usize, end: usize, pu
 }
 
 /// Removes the runs from `start` up to `end`.
-fn remove_range(runs: &mut SmallVec<(Mode, Span), 4>, start: usize, end: usize)
+fn remove_range(runs: &mut SmallVec<(Mode, Span), 2>, start: usize, end: usize)
     requires ordered { start ≤ end }
     requires within { end ≤ small_vec_len runs.old }
     ensures items { runs.new.items ≡ take start runs.old.items ++ drop end runs.old.items }
@@ -42,7 +42,7 @@ fn remove_range(runs: &mut SmallVec<(Mode, Span), 4>, start: usize, end: usize)
 }
 
 /// Inserts these runs before the one that stands `at` this place, in room that is there.
-fn insert_all(runs: &mut SmallVec<(Mode, Span), 4>, at: usize, added: &[(Mode, Span)])
+fn insert_all(runs: &mut SmallVec<(Mode, Span), 2>, at: usize, added: &[(Mode, Span)])
     requires within { at ≤ small_vec_len runs.old }
     requires room { small_vec_len runs.old + length added.now ≤ runs.old.capacity }
     ensures items { runs.new.items ≡ take at runs.old.items ++ (added.now ++ drop at runs.old.items) }
@@ -54,7 +54,7 @@ fn insert_all(runs: &mut SmallVec<(Mode, Span), 4>, at: usize, added: &[(Mode, S
 }
 
 /// Inserts a run before the one that stands `at` this place, in room that is there.
-fn insert(runs: &mut SmallVec<(Mode, Span), 4>, at: usize, run: (Mode, Span))
+fn insert(runs: &mut SmallVec<(Mode, Span), 2>, at: usize, run: (Mode, Span))
     requires within { at ≤ small_vec_len runs.old }
     requires room { small_vec_len runs.old + 1 ≤ runs.old.capacity }
     ensures items { runs.new.items ≡ take at runs.old.items ++ (run ∷ drop at runs.old.items) }
