@@ -128,7 +128,7 @@ module _ (policy : Policy) (S : State) (file : ℕ) (wait : Pending) (T : State)
 
   joined_free : ¬ IsRefused policy S file wait → IsFreeOfCycles policy S → IsFreeOfCycles policy T
   unfolding BlocksNew
-  joined_free open_still free owner through chain =
+  joined_free open_still free owner cycle =
       free_joined (WaitsUncrossed policy S) (WaitsUncrossed policy T) wait.owner (BlocksNew policy (S.files file) wait)
       (λ one other step. elim (new_step one other step.0) [
         | inl was ↦ inl (was, λ crossed. step.1 ((suspends.changes.crossed one).1 (waiter_detected policy T one other step.0, inl crossed)))
@@ -145,7 +145,7 @@ module _ (policy : Policy) (S : State) (file : ℕ) (wait : Pending) (T : State)
           },
         )
       ])
-      (λ one led. free one led.0 led.1) owner (through, chain)
+      free owner cycle
 
   -- what holds of each other file and of the longer one holds of all
   at_each_file : (P : FileState → Type 0) → ((other : ℕ) → P (S.files other)) → P (with_wait (S.files file) wait) → (other : ℕ) → P (T.files other)

@@ -83,13 +83,13 @@ steps_from policy given S T moves one other step =
 -- no cycle of uncrossed owners is closed: an owner that is given a lock is crossed, or has no step
 pub all_move_free : (policy : Policy) (given : List ℕ) (S T : State) → ((file : ℕ) → MovesFile given (S.files file) (T.files file)) → Crosses S given T
     → IsFreeOfCycles policy S → IsFreeOfCycles policy T
-all_move_free policy given S T moves crosses free owner through chain =
+all_move_free policy given S T moves crosses free owner cycle =
     free_on (WaitsUncrossed policy S) (WaitsUncrossed policy T)
     (λ p q r step next. elim (steps_from policy given S T moves p q step.0) [
       | inl was ↦ (was, λ crossed. step.1 ((crosses p).1 (waiter_detected policy T p q step.0, inl crossed)))
       | inr is ↦ absurd (next.1 ((crosses q).1 (waiter_detected policy T q r next.0, inr is)))
     ])
-    (λ p led. free p led.0 led.1) owner (through, chain)
+    free owner cycle
 
 stays_move : (given : List ℕ) (F : FileState) → MovesFile given F F
 stays_move given F = record { locks = locks_itself (Contains given) F; waits = within_itself F.waits; compatible = λ h. h }
@@ -182,7 +182,7 @@ safe_opening policy T same =
         flocks = λ one other m k distinct m_is k_is. absurd (let h : None ≡ Some m = m_is in cc);
       };
       settled = λ file. tt;
-      free_of_cycles = λ owner through chain. (let step = first_step (WaitsUncrossed policy opening) owner through owner chain in no_step policy owner step.0 step.1);
+      free_of_cycles = λ owner cycle. (let step = first_step (WaitsUncrossed policy opening) owner cycle.0 owner cycle.1 in no_step policy owner step.0 step.1);
       once = record {
         on_one_file = λ file other ticket one more. absurd (Any-nil _ one);
         on_a_file = λ file i j d before within. absurd (omega (arith, within));
@@ -198,7 +198,7 @@ safe_fetched policy S None T fetched safe once = safe_same policy S T fetched.1 
 safe_fetched policy S (Some ticket) T fetched safe once = record {
   compatible = λ file. subst (λ (F : FileState). IsCompatible F) (sym (stays file)) (safe.compatible file);
   settled = λ file. subst (λ (F : FileState). IsSettled policy F) (sym (stays file)) (safe.settled file);
-  free_of_cycles = λ owner through chain. safe.free_of_cycles owner through (chain_weaker (WaitsUncrossed policy T) (WaitsUncrossed policy S) before owner through owner chain);
+  free_of_cycles = λ owner cycle. safe.free_of_cycles owner (cycle.0, chain_weaker (WaitsUncrossed policy T) (WaitsUncrossed policy S) before owner cycle.0 owner cycle.1);
   once = once;
 }
   where

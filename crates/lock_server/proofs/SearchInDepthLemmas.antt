@@ -170,7 +170,7 @@ module _ (policy : Policy) (S : State) where
 
   -- none is ahead
   pub searched_through : (search : Search) → IsSearchedInDepth policy S search → ((owner : ℕ) → ¬ IsAhead search owner) → IsFreeOfCycles policy S
-  searched_through search so_far none owner through chain = so_far.others owner (none owner) (through, chain)
+  searched_through search so_far none owner cycle = so_far.others owner (none owner) cycle
 
   -- at first each owner from which a step leads is untried
   pub searched_none : (search : Search) → search.path.items ≡ [] → ((owner : ℕ) → IsTrue (contains nat_cmp search.untried owner) → ¬ IsTrue (S.crossed owner))

@@ -1,12 +1,12 @@
--- Which owner waits for which, and when a wait would close a cycle. A chain is that of `wait_core`, between owners.
-use Rattle.std.specs.Prelude.{◌≡◌, ℕ, ◌⊎◌, IsTrue, Any, List, ◌∷◌, ◌++◌}
+-- Which owner waits for which, and when a wait would close a cycle: edges, chains and cycles are those of `wait_core`, between owners.
+use Rattle.std.specs.Prelude.{◌≡◌, ℕ, ◌⊎◌, IsTrue, Any, List}
 use Rattle.range_core.specs.Ranges.{HeldConflicts, Covers}
 use Rattle.wait_core.specs.declared.Family.{Family}
 use Rattle.wait_core.specs.declared.Family.TheVariants.{Bytes, Whole}
 use Rattle.wait_core.specs.declared.Policy.{Policy}
 use Rattle.wait_core.specs.declared.Policy.TheVariants.{Held, Queue}
 use Rattle.wait_core.specs.Blocking.{WaitsConflict}
-use Rattle.wait_core.specs.Cycles.{IsChain}
+use Rattle.wait_core.specs.Cycles.{ClosesWith, HasNoCycle, IsEdge, IsReachable}
 use Rattle.lock_server.specs.declared.Pending.{Pending}
 use Rattle.lock_server.specs.Pendings.{as_wait}
 use Rattle.lock_server.specs.Files.{FileState}
@@ -38,36 +38,29 @@ IsBlockedByOwner Queue F earlier wait other =
 
 -- one owner waits for another on the file: it has a detected wait there, and the other blocks it
 -- (POSIX.1-2017 fcntl, ERRORS, EDEADLK; which waits are detected is the server's choice)
-pub record WaitsForOn (policy : Policy) (F : FileState) (one other : ℕ) : Type 0 where
-  pub before : List Pending
-  pub wait : Pending
-  pub after : List Pending
-  pub place : F.waits ≡ before ++ wait ∷ after
-  pub detected : IsTrue wait.detect
-  pub of_one : wait.owner ≡ one
-  pub blocked : IsBlockedByOwner policy F before wait other
+abbrev pub WaitsForOn : Policy → FileState → ℕ → ℕ → Type 0
+WaitsForOn policy F one other =
+    IsEdge (λ (wait : Pending). wait.owner) (λ (wait : Pending). IsTrue wait.detect) (IsBlockedByOwner policy F) F.waits one other
 
 -- one owner waits for another on some file (POSIX.1-2017 fcntl, ERRORS, EDEADLK)
 pub record WaitsFor (policy : Policy) (S : State) (one other : ℕ) : Type 0 where
   pub file : ℕ
   pub on_file : WaitsForOn policy (S.files file) one other
 
--- one owner is led to another by a chain of one or more such steps (POSIX.1-2017 fcntl, ERRORS, EDEADLK)
+-- one owner is reachable from another (POSIX.1-2017 fcntl, ERRORS, EDEADLK)
 abbrev pub LeadsTo : Policy → State → ℕ → ℕ → Type 0
-LeadsTo policy S one other = (through : List ℕ) × IsChain (WaitsFor policy S) one through other
+LeadsTo policy S one other = IsReachable (WaitsFor policy S) one other
 
--- a wait that would join those on the file closes a cycle: some owner that blocks it is led to its own
+-- a wait that would join those on the file closes a cycle: from some owner that blocks it its own is reachable
 -- (POSIX.1-2017 fcntl, ERRORS, EDEADLK, "would cause a deadlock")
-pub record ClosesCycle (policy : Policy) (S : State) (file : ℕ) (wait : Pending) : Type 0 where
-  pub blocker : ℕ
-  pub blocked : IsBlockedByOwner policy (S.files file) (S.files file).waits wait blocker
-  pub led : LeadsTo policy S blocker wait.owner
+abbrev pub ClosesCycle : Policy → State → ℕ → Pending → Type 0
+ClosesCycle policy S file wait = ClosesWith (WaitsFor policy S) (IsBlockedByOwner policy (S.files file) (S.files file).waits wait) wait.owner
 
 -- one owner waits for another, and was given no lock since it waits (this project's choice)
 abbrev pub WaitsUncrossed : Policy → State → ℕ → ℕ → Type 0
 WaitsUncrossed policy S one other = WaitsFor policy S one other × ¬ IsTrue (S.crossed one)
 
--- no owner is led to itself by owners that were given no lock since they wait; of owners that make no other request while they
--- wait, that is: no owner is led to itself (POSIX.1-2017 fcntl, ERRORS, EDEADLK; the exception is this project's choice)
+-- from no owner is itself reachable through owners that were given no lock since they wait; of owners that make no other request while
+-- they wait, that is: from no owner is itself reachable (POSIX.1-2017 fcntl, ERRORS, EDEADLK; the exception is this project's choice)
 abbrev pub IsFreeOfCycles : Policy → State → Type 0
-IsFreeOfCycles policy S = (owner : ℕ) (through : List ℕ) → ¬ IsChain (WaitsUncrossed policy S) owner through owner
+IsFreeOfCycles policy S = HasNoCycle (WaitsUncrossed policy S)

@@ -11,7 +11,7 @@ use Rattle.lock_server.specs.Files.{SameFile}
 use Rattle.lock_server.specs.Safety.{IsCompatible}
 use Rattle.lock_server.specs.Settling.{IsHeldBack, IsSettled}
 use Rattle.lock_server.specs.States.{Crosses, IsTaken, SameState, State}
-use Rattle.wait_core.specs.Cycles.{IsChain}
+use Rattle.wait_core.specs.Cycles.{IsReachable}
 
 -- the byte lock, as it would be asked for
 abbrev pub lock_request : Lock → Pending
@@ -89,6 +89,6 @@ AreCompatible S = (file : ℕ) → IsCompatible (S.files file)
 abbrev pub AreSettled : Policy → State → Type 0
 AreSettled policy S = (file : ℕ) → IsSettled policy (S.files file)
 
--- the owner is led to itself by owners that were given no lock since they wait
+-- the owner is reachable from itself through owners that were given no lock since they wait
 abbrev pub IsOnCycle : Policy → State → ℕ → Type 0
-IsOnCycle policy S owner = (through : List ℕ) × IsChain (WaitsUncrossed policy S) owner through owner
+IsOnCycle policy S owner = IsReachable (WaitsUncrossed policy S) owner owner

@@ -2,7 +2,7 @@
 use Rattle.std.specs.Prelude.{◌≡◌, ℕ, ◌+◌, ◌*◌, ◌≤◌, ◌⊎◌, ◌↔◌, IsTrue, List, [], ◌∷◌, ◌++◌, Contains, AllPairs, vec_len}
 use Rattle.std.specs.BTreeSet.{btree_set_len, contains}
 use Rattle.std.specs.Ordering.{nat_cmp}
-use Rattle.wait_core.specs.Cycles.{IsChain}
+use Rattle.wait_core.specs.Cycles.{IsReachable}
 use Rattle.wait_core.specs.declared.Policy.{Policy}
 use Rattle.lock_server.specs.declared.table.cycles.Search.{Search}
 use Rattle.lock_server.specs.declared.table.cycles.Turn.{Turn}
@@ -41,6 +41,6 @@ IsTurn search owners Back = (owner : ℕ) → Contains owners owner → ¬ IsAhe
 
 -- each on the path is led to each behind it; those that are ahead aren't crossed; and all others are on no cycle
 pub record IsSearchedInDepth (policy : Policy) (S : State) (search : Search) : Type 0 where
-  pub path : AllPairs (λ one other. (through : List ℕ) × IsChain (WaitsUncrossed policy S) one through other) search.path.items
+  pub path : AllPairs (IsReachable (WaitsUncrossed policy S)) search.path.items
   pub uncrossed : (owner : ℕ) → IsAhead search owner → ¬ IsTrue (S.crossed owner)
   pub others : (owner : ℕ) → (¬ IsAhead search owner) → ¬ IsOnCycle policy S owner

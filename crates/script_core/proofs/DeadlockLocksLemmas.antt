@@ -142,8 +142,8 @@ waits_in_state policy locks report waits p q told (place, b) =
       after = drop (suc place) waits;
       place = sym (take-append-drop place waits)
           ∙ ap (λ (l : List Wait). take place waits ++ l) (drop-cons waits place b.wait within ∙ ap (λ (x : Wait). x ∷ drop (suc place) waits) (get_or_from_slice_get waits place b.wait b.wait b.at));
-      of_p = b.of_p;
-      traditional = b.traditional;
+      detected = b.traditional;
+      of_one = b.of_p;
       blocked = blocked_in_state policy locks report (take place waits) b.wait q told b.blocked;
     }
 
@@ -162,8 +162,8 @@ waits_in_report policy locks report waits p q told few for =
       record {
         wait = for.wait;
         at = slice_get-get_or waits (length for.before) for.wait within ∙ ap (λ (x : Wait). Some x) here;
-        of_p = for.of_p;
-        traditional = for.traditional;
+        of_p = for.of_one;
+        traditional = for.detected;
         blocked = grind (arith, common_steps, blocked_in_report);
       },
     )

@@ -1,6 +1,6 @@
 -- The entries of an output can be written, and are a run: for `outputs_are_legal` and `outputs_are_short`.
 use Rattle.std.proofs.lemmas.Grind.{common_steps}
-use Rattle.std.proofs.Common.{rules, ◌≡◌, ℕ, zero, suc, ◌+◌, ◌^◌, ◌<◌, ◌≤◌, ◌==◌, List, [], ◌∷◌, ◌++◌, length, length-append, All, Some, None, IfSome, slice_get, ⊎_elim, refl, sym, ap, ◌∙◌, subst, arith, eq-eqb, ne_eqb, append_assoc, append-nil}
+use Rattle.std.proofs.Common.{◌≡◌, ℕ, zero, suc, ◌+◌, ◌^◌, ◌<◌, ◌≤◌, ◌==◌, List, [], ◌∷◌, ◌++◌, length, length-append, All, Some, None, IfSome, slice_get, ⊎_elim, refl, sym, ap, ◌∙◌, subst, arith, eq-eqb, ne_eqb, append_assoc, append-nil}
 use Rattle.std.specs.List.{AllByRecursion as Each}
 use Rattle.std.proofs.lemmas.Bool.{cases_eq}
 use Rattle.std.proofs.lemmas.List.Elements.{All-from_recursion, recursion_from_All, filter-append}
@@ -192,7 +192,13 @@ unfolding opening_state opening_descriptors
 opening_fits rules = grind (arith, common_steps, eq-eqb, cases_eq)
 
 pub output_fits : (bytes text : List ℕ) (output : IsOutput bytes text) → TakesFit output.script.rules output.journal output.state
-output_fits bytes text output = search (rules, opening_fits, drains_fit, recursion_from_All, arrivals_read, few_read)
+output_fits bytes text output =
+    let script = output.script in
+    let opening = opening_fits script.rules in
+    drains_fit script.rules (processes_in script) [] [] opening_state script.arrivals output.journal output.state
+    (recursion_from_All (IsArrivalOf script.rules.limits) script.arrivals (arrivals_read bytes script output.accepted))
+    (few_read bytes script output.accepted)
+    (record { after = opening.0; settled = opening.1; writable = tt; numbers = tt }) output.drained
 
 pub writable_output : (bytes text : List ℕ) (output : IsOutput bytes text) → All (IsWritableEvent output.script.rules.limits) output.journal
 writable_output bytes text output =

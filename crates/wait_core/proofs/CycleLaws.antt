@@ -170,8 +170,8 @@ step_in_rest policy locks f waits p q for =
       wait = for.wait;
       after = there.later;
       place = there.place;
-      of_p = for.of_p;
-      traditional = for.traditional;
+      detected = for.detected;
+      of_one = for.of_one;
       blocked = blocked_by_more policy locks f there.earlier for.wait q
           (subst (λ (ws : List Wait). IsBlockedByProcess policy locks ws for.wait q) there.kept for.blocked);
     }
@@ -197,7 +197,7 @@ waiting_owner policy locks waits owner p q others for same =
     let other : for.wait.owner ≢ owner =
     subst (λ (w : Wait). w.owner ≢ owner) (split_is waits for.before for.wait for.after for.place)
     (others (length for.before) for.wait (split_within waits for.before for.wait for.after for.place)) in
-    other (for.traditional ∙ ap (λ (n : ℕ). Process n) for.of_p ∙ same)
+    other (for.detected ∙ ap (λ (n : ℕ). Process n) for.of_one ∙ same)
 
 pub free_when_locks_change : FreeWhenLocksChange
 free_when_locks_change policy old new waits owner free agree others p (through, chain) =
@@ -207,8 +207,8 @@ free_when_locks_change policy old new waits owner free agree others p (through, 
       wait = step.wait;
       after = step.after;
       place = step.place;
-      of_p = step.of_p;
-      traditional = step.traditional;
+      detected = step.detected;
+      of_one = step.of_one;
       blocked = blocked_kept policy old new step.before step.wait b
           (λ byte. agree step.wait.file (Process b) byte (waiting_owner policy new waits owner b c others more)) step.blocked;
     } in kept) in

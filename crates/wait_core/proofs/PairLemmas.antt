@@ -40,20 +40,28 @@ waits_by_lock locks waits p q (k, wait, within, is, holds) = record {
   wait = wait;
   after = drop (suc k) waits;
   place = split_at waits k wait within is;
-  of_p = holds.of_p;
-  traditional = holds.traditional;
+  detected = holds.traditional;
+  of_one = holds.of_p;
   blocked = holds.blocked;
 }
 
 -- a table that tells the pairs of the list and these locks
 pub told : (waits : Waits) (locks : Locks)
     → ((p q : ℕ) → p ≤ 64 → 1 ≤ q → q ≤ 64 → IsTrue (has_pair waits p q) ↔ Any (IsBlockedWait locks p q) (waits_of waits)) → AreTold waits locks
-told waits locks pairs = search (rules, waits_by_lock, blocked_wait)
+told waits locks pairs = record {
+  pairs = λ p q p_few q_one q_few. (
+    λ yes. waits_by_lock locks (waits_of waits) p q ((pairs p q p_few q_one q_few).0 yes),
+    λ for. (pairs p q p_few q_one q_few).1 (blocked_wait locks (waits_of waits) p q for),
+  );
+}
 
 -- and the way back
 pub tells : (waits : Waits) (locks : Locks) → AreTold waits locks → (p q : ℕ) → p ≤ 64 → 1 ≤ q → q ≤ 64
     → IsTrue (has_pair waits p q) ↔ Any (IsBlockedWait locks p q) (waits_of waits)
-tells waits locks told p q p_few q_one q_few = grind (arith, common_steps, blocked_wait, waits_by_lock)
+tells waits locks told p q p_few q_one q_few = (
+  λ yes. blocked_wait locks (waits_of waits) p q ((told.pairs p q p_few q_one q_few).0 yes),
+  λ any. (told.pairs p q p_few q_one q_few).1 (waits_by_lock locks (waits_of waits) p q any),
+)
 
 pub keeps_other : (w : Wait) (p : ℕ) → w.p ≢ p → not (w.p == p) ≡ true
 keeps_other w p other = grind (arith, nat_tests)

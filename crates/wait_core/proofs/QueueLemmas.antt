@@ -226,8 +226,8 @@ stands_for locks earlier (wait ∷ waits) p q (inl here) = record {
   wait = wait;
   after = waits;
   place = refl;
-  of_p = here.of_p;
-  traditional = here.traditional;
+  detected = here.traditional;
+  of_one = here.of_p;
   blocked = inr here.behind;
 }
 stands_for locks earlier (wait ∷ waits) p q (inr later) =
@@ -247,8 +247,8 @@ waits_in_queue locks waits p q (inl for) = record {
   wait = for.wait;
   after = for.after;
   place = for.place;
-  of_p = for.of_p;
-  traditional = for.traditional;
+  detected = for.detected;
+  of_one = for.of_one;
   blocked = inl for.blocked;
 }
 waits_in_queue locks waits p q (inr stands) = stands_for locks [] waits p q stands

@@ -46,7 +46,7 @@ waiting_known policy locks waits processes p q each for =
     let known : IsWellFormed processes for.wait =
     subst (IsWellFormed processes) (split_is waits for.before for.wait for.after for.place)
     (each (length for.before) for.wait (split_within waits for.before for.wait for.after for.place)) in
-    subst (λ (n : ℕ). (1 ≤ n) × (n ≤ processes)) for.of_p (known.from_one, known.process)
+    subst (λ (n : ℕ). (1 ≤ n) × (n ≤ processes)) for.of_one (known.from_one, known.process)
 
 -- no traditional wait is blocked by its own process
 pub not_own_blocker : (policy : Policy) (locks : Locks) (waits : List Wait) (wait : Wait) → IsTraditional wait

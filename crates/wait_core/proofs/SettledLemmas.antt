@@ -1,6 +1,6 @@
 -- Waits that are known to be blocked on all files but some, and what a change of the list or of the locks leaves of that: for
 -- `Waits::forget_changes`, `Waits::is_blocked_among`, `Waits::join` and others.
-use Rattle.std.proofs.Common.{rules, ℕ, ◌≡◌, ◌≢◌, ◌<◌, ◌≤◌, ◌∙◌, ◌⊎◌, inl, inr, sym, ap, subst, refl, arith, Bool, true, false, not, zero, suc, Some, List, [], ◌∷◌, ◌++◌, All, Any, length, get_or, take, append_assoc, append-nil}
+use Rattle.std.proofs.Common.{ℕ, ◌≡◌, ◌≢◌, ◌<◌, ◌≤◌, ◌∙◌, ◌⊎◌, inl, inr, sym, ap, subst, refl, arith, Bool, true, false, not, zero, suc, Some, List, [], ◌∷◌, ◌++◌, All, Any, length, get_or, take, append_assoc, append-nil}
 use Rattle.std.proofs.lemmas.Grind.{common_steps}
 use Rattle.std.specs.Prelude.{◌==◌, ◌||◌, IsTrue, IsFalse}
 use Rattle.std.specs.List.{AllPairs, filter}
@@ -22,9 +22,9 @@ use Rattle.wait_core.specs.declared.files.FileSet.{FileSet}
 use Rattle.wait_core.specs.declared.waits.Waits.{Waits}
 use Rattle.wait_core.specs.Locks.{Locks}
 use Rattle.wait_core.specs.Blocking.{AllBlocked, IsBlocked, IsBlockedIn, WaitsConflict}
-use Rattle.wait_core.specs.Cycles.{IsTraditional}
+use Rattle.wait_core.specs.Cycles.{IsTraditional, WaitsFor}
 use Rattle.wait_core.specs.Files.{has_file}
-use Rattle.wait_core.specs.Pairs.{IsOn}
+use Rattle.wait_core.specs.Pairs.{IsBlockedWait, IsOn}
 use Rattle.wait_core.specs.Settled.{AllBlockedElsewhere, AllBlockedWhere, AgreeElsewhere, AgreeOff}
 use Rattle.wait_core.specs.WellFormed.{IsWellFormed, can_own}
 use Rattle.wait_core.specs.WaitsView.{waits_of, wait_of, AreTold, IsTold}
@@ -214,7 +214,14 @@ by_process Whole locks wait q owner traditional blocks = absurd (let no : false 
 pub told_blocked : (waits : Waits) (locks : Locks) (processes k : ℕ) (wait : Wait) → processes ≤ 64 → All (IsWellFormed processes) (waits_of waits)
     → AllPairs (λ v w. v.p ≢ w.p) (waits_of waits)
     → AreTold waits locks → k < length (waits_of waits) → get_or (waits_of waits) k wait ≡ wait → IsTold waits wait.p → IsBlockedIn wait.family locks wait
-told_blocked waits locks processes k wait h h2 h3 h4 h5 h6 h7 = search (rules, blocked_wait, one_wait, by_process)
+told_blocked waits locks processes k wait few each apart told within is (j, j_few, has) =
+    let known : IsWellFormed processes wait = subst (IsWellFormed processes) is (each k wait within) in
+    let for : WaitsFor Held locks (waits_of waits) wait.p (suc j) =
+    (told.pairs wait.p (suc j) (omega (arith, few, known.process)) (omega arith) (omega (arith, j_few))).0 has in
+    let (at, v, inside, v_is, holds) = blocked_wait locks (waits_of waits) wait.p (suc j) for in
+    let same : v ≡ wait = one_wait (waits_of waits) apart at k v wait inside within v_is is holds.of_p in
+    let blocked = subst (λ (w : Wait). IsBlockedWait locks wait.p (suc j) w) same holds in
+    by_process wait.family locks wait (suc j) known.owner blocked.traditional blocked.blocked
 
 blocked_by_lock : (policy : Policy) (locks : Locks) (earlier : List Wait) (wait : Wait) → IsBlockedIn wait.family locks wait
     → IsBlocked policy locks earlier wait
