@@ -6,10 +6,8 @@ use Rattle.range_core.specs.declared.Mode.TheVariants.{Write}
 use Rattle.range_core.specs.declared.Span.{Span}
 use Rattle.range_core.specs.Ranges.{Covers, HeldConflicts}
 use Rattle.lock_book.specs.declared.Owner.{Owner}
-use Rattle.lock_book.specs.declared.Owner.TheVariants.{Process, Description}
 use Rattle.lock_book.specs.declared.book.Book.{Book}
 use Rattle.lock_book.specs.Books.{byte_modes_of}
-use Rattle.lock_book.specs.Conflicts.{ByteModes, ProcessBlocks}
 use Rattle.wait_core.specs.Locks.{locks_of}
 use Rattle.lock_manager.specs.declared.machine.Machine.{Machine}
 use Rattle.lock_manager.specs.State.{State, with_byte_mode}
@@ -21,18 +19,11 @@ use Rattle.lock_manager.proofs.kept.SafetyLemmas.{hit}
 none_of_mode : (mode : Option Mode) → ¬ HeldConflicts mode Write → mode ≡ None
 none_of_mode mode free = grind (arith, common_steps)
 
--- a process that would block no description on the range has no lock there
-pub none_held : (modes : ByteModes) (process description : ℕ) (span : Span) → ¬ ProcessBlocks modes process (Description description) span Write
-    → (byte : ℕ) → Covers span byte → modes (Process process) byte ≡ None
-none_held modes process description span free byte covers =
-    none_of_mode (modes (Process process) byte)
-    (λ held. free (record { byte = byte; covered = covers; blocks = record { another = λ same. cc; conflicts = held } }))
-
--- nor on the file of this book
-pub none_held_at : (books : List Book) (file : ℕ) (book : Book) (process description : ℕ) (span : Span) → slice_get books file ≡ Some book
-    → ¬ ProcessBlocks (byte_modes_of book) process (Description description) span Write
-    → (byte : ℕ) → Covers span byte → (locks_of books).bytes file (Process process) byte ≡ None
-none_held_at books file book process description span was free byte covers = rw was (none_held (byte_modes_of book) process description span free byte covers)
+-- an owner whose modes are in nobody's way on the range has no lock there, on the file of this book
+pub none_held_at : (books : List Book) (file : ℕ) (book : Book) (owner : Owner) (span : Span) → slice_get books file ≡ Some book
+    → ((byte : ℕ) → Covers span byte → ¬ HeldConflicts (byte_modes_of book owner byte) Write)
+    → (byte : ℕ) → Covers span byte → (locks_of books).bytes file owner byte ≡ None
+none_held_at books file book owner span was free byte covers = rw was (none_of_mode (byte_modes_of book owner byte) (free byte covers))
 
 -- a machine in which the owner has no lock on the range shows the state in which it was removed
 pub with_no_change : (machine : Machine) (S : State) (file : ℕ) (owner : Owner) (span : Span)

@@ -176,26 +176,22 @@ impl Machine {
         ensures same_rules { SameRules self.old self.new }
         ensures waits { machine_waits self.new ≡ machine_waits self.old }
     {
-        if self.may_hold(file, owner, span) {
+        if self.holds_some(file, owner, span) {
             self.change(file, owner, span, None)
         } else {
             Ok(())
         }
     }
 
-    /// Whether the owner may have a lock on the range, which of a description isn't asked.
-    fn may_hold(&self, file: u8, owner: Owner, span: Span) -> bool
+    /// Whether the owner has a lock on some byte of the range.
+    fn holds_some(&self, file: u8, owner: Owner, span: Span) -> bool
         requires file { file < FILES }
         requires span { IsByteRange span }
         ensures { IsFalse result → (byte : ℕ) → Covers span byte → (machine_locks self.now).bytes file owner byte ≡ None }
     {
-        // Each lock of the process is in the way of a description that wants to write.
-        let other = Owner::Description(0);
-        match owner {
-            Owner::Process(process) => {
-                self.books[usize::from(file)].process_blocks(process, other, span, Mode::Write)
-            },
-            Owner::Description(_) => true,
+        match self.books[usize::from(file)].list(owner) {
+            Some(list) => list.first_hit(span, Mode::Write).is_some(),
+            None => false,
         }
     }
 
