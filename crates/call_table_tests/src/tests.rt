@@ -27,6 +27,7 @@ mod worked;
 use fd_table::{Access, Limits};
 use lock_manager::{Request, Rules};
 use range_core::Memory;
+use std::fmt::Debug;
 use std::process::Abort;
 use wait_core::Policy;
 
@@ -34,9 +35,13 @@ use wait_core::Policy;
 // so these tests pass whichever it is, and a run that refuses none meets no `Memory`.
 
 /// What a call comes to that is made again after a growth was refused.
-fn again<T>(rt: &impl Abort, second: Result<T, Memory>) -> Result<T, Memory> {
-    assert!(rt; second.is_ok(), "refused again");
-    second
+fn again<T>(rt: &impl Abort, second: Result<T, Memory>) -> T {
+    second.expect(rt, "refused again")
+}
+
+/// The two are the same.
+fn same<T: PartialEq + Debug + Drop>(rt: &impl Abort, left: T, right: T) {
+    assert_eq!(rt; left, right);
 }
 
 const RULES: Rules = Rules {

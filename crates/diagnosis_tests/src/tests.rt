@@ -2,10 +2,11 @@
 use diagnosis::{Language, Text, told_of, told_of_headers, told_of_illegal};
 use script_core::{Cause, JournalFault, JournalReader, ScriptFault, parse};
 use std::alloc::Global;
+use std::process::Abort;
 use std::test::Fail;
 
 /// A text, what is told of its fault, the line as it is shown, and its caret.
-type Row = (&'static [u8], &'static str, &'static str, &'static str);
+type Row<'a> = (&'a [u8], &'a str, &'a str, &'a str);
 
 /// The same of a history, with the kind of its fault.
 type HistoryRow = (
@@ -17,7 +18,7 @@ type HistoryRow = (
 );
 
 /// Scripts with a faulty process or byte, and of each what stands behind the place of its fault, the line as it is shown, and its caret.
-const PROCESSES_AND_BYTES: [Row; 17] = [
+const PROCESSES_AND_BYTES: &[Row<'static>] = &[
     // A process.
     (
         b"17 open 0 rw\n",
@@ -125,7 +126,7 @@ const PROCESSES_AND_BYTES: [Row; 17] = [
 ];
 
 /// The same with a faulty header line or command.
-const HEADERS_AND_COMMANDS: [Row; 16] = [
+const HEADERS_AND_COMMANDS: &[Row<'static>] = &[
     // A header line.
     (
         b"1 open 0 rw\npolicy queue\n",
@@ -227,7 +228,7 @@ const HEADERS_AND_COMMANDS: [Row; 16] = [
 ];
 
 /// The same with too few or too many words, or a faulty number.
-const COUNTS_AND_NUMBERS: [Row; 17] = [
+const COUNTS_AND_NUMBERS: &[Row<'static>] = &[
     // How many words.
     (
         b"1 open 0\n",
@@ -335,7 +336,7 @@ const COUNTS_AND_NUMBERS: [Row; 17] = [
 ];
 
 /// Faulty visits to sections, and a bail with an argument.
-const SECTIONS: [Row; 5] = [
+const SECTIONS: &[Row<'static>] = &[
     (
         b"1 enter 64\n",
         "f:1:9: read \"64\"; expected SECTION, a number 0 to 63",
@@ -369,7 +370,7 @@ const SECTIONS: [Row; 5] = [
 ];
 
 /// The same with another faulty word, a comment behind a request, or without a fault.
-const WORDS_AND_COMMENTS: [Row; 12] = [
+const WORDS_AND_COMMENTS: &[Row<'static>] = &[
     // A word.
     (
         b"1 open 0 wr\n",
@@ -443,7 +444,7 @@ const WORDS_AND_COMMENTS: [Row; 12] = [
 ];
 
 /// The same of journals.
-const JOURNALS: [Row; 18] = [
+const JOURNALS: &[Row<'static>] = &[
     (
         b"open 0 rw | 1#1 fd 0\n",
         "f:1:1: read \"open\"; expected a process and the number of its request, as 1#1",
@@ -705,6 +706,11 @@ const HISTORIES: [HistoryRow; 21] = [
     ),
 ];
 
+/// The texts are the same.
+fn same(rt: &impl Abort, seen: &str, due: &str) {
+    assert_eq!(rt; seen, due);
+}
+
 /// What stands behind the fault of a text, if it has one.
 fn told_behind(
     alloc: Global,
@@ -732,9 +738,28 @@ fn due(alloc: Global, told: &str, shown: &str, caret: &str) -> Result<String, Fa
     Ok(format!(in alloc; "{told}\n    {shown}\n    {caret}\n")?)
 }
 
-/// The fault of a script.
-fn fault_of_script(alloc: Global, bytes: &[u8]) -> Option<ScriptFault> {
-    parse(alloc, bytes).err()
+/// Behind the fault of the row's text stands what is written there.
+fn comes_out(
+    rt: &impl Abort,
+    alloc: Global,
+    language: Language,
+    fault: Option<ScriptFault>,
+    row: Row,
+) -> Result<(), Fail> {
+    let (bytes, told, shown, caret) = row;
+    let seen = told_behind(alloc, language, bytes, fault)?;
+    let due = due(alloc, told, shown, caret)?;
+    same(rt, seen.as_str(), due.as_str());
+    Ok(())
+}
+
+/// So it is with each of these scripts.
+fn scripts_come_out(rt: &impl Abort, alloc: Global, rows: &[Row]) -> Result<(), Fail> {
+    for row in rows {
+        let fault = parse(alloc, row.0).err();
+        comes_out(rt, alloc, Language::Script, fault, *row)?;
+    }
+    Ok(())
 }
 
 /// The fault of a journal.
@@ -752,60 +777,15 @@ fn fault_of_journal(alloc: Global, bytes: &[u8]) -> Result<Option<ScriptFault>, 
 
 /// Behind the fault of each of these scripts stands what is written here.
 #[test]
-fn scripts_with_processes_and_bytes(rt: HostRuntime) -> Result<(), Fail> {
-    for (bytes, told, shown, caret) in PROCESSES_AND_BYTES {
-        let fault = fault_of_script(rt.alloc(), bytes);
-        let seen = told_behind(rt.alloc(), Language::Script, bytes, fault)?;
-        let due = due(rt.alloc(), told, shown, caret)?;
-        assert_eq!(rt; seen.as_str(), due.as_str());
-    }
-    Ok(())
-}
-
-/// So it is with these.
-#[test]
-fn scripts_with_headers_and_commands(rt: HostRuntime) -> Result<(), Fail> {
-    for (bytes, told, shown, caret) in HEADERS_AND_COMMANDS {
-        let fault = fault_of_script(rt.alloc(), bytes);
-        let seen = told_behind(rt.alloc(), Language::Script, bytes, fault)?;
-        let due = due(rt.alloc(), told, shown, caret)?;
-        assert_eq!(rt; seen.as_str(), due.as_str());
-    }
-    Ok(())
-}
-
-/// So it is with these.
-#[test]
-fn scripts_with_sections(rt: HostRuntime) -> Result<(), Fail> {
-    for (bytes, told, shown, caret) in SECTIONS {
-        let fault = fault_of_script(rt.alloc(), bytes);
-        let seen = told_behind(rt.alloc(), Language::Script, bytes, fault)?;
-        let due = due(rt.alloc(), told, shown, caret)?;
-        assert_eq!(rt; seen.as_str(), due.as_str());
-    }
-    Ok(())
-}
-
-/// So it is with these.
-#[test]
-fn scripts_with_counts_and_numbers(rt: HostRuntime) -> Result<(), Fail> {
-    for (bytes, told, shown, caret) in COUNTS_AND_NUMBERS {
-        let fault = fault_of_script(rt.alloc(), bytes);
-        let seen = told_behind(rt.alloc(), Language::Script, bytes, fault)?;
-        let due = due(rt.alloc(), told, shown, caret)?;
-        assert_eq!(rt; seen.as_str(), due.as_str());
-    }
-    Ok(())
-}
-
-/// So it is with these.
-#[test]
-fn scripts_with_words_and_comments(rt: HostRuntime) -> Result<(), Fail> {
-    for (bytes, told, shown, caret) in WORDS_AND_COMMENTS {
-        let fault = fault_of_script(rt.alloc(), bytes);
-        let seen = told_behind(rt.alloc(), Language::Script, bytes, fault)?;
-        let due = due(rt.alloc(), told, shown, caret)?;
-        assert_eq!(rt; seen.as_str(), due.as_str());
+fn scripts_by_hand(rt: HostRuntime) -> Result<(), Fail> {
+    for rows in [
+        PROCESSES_AND_BYTES,
+        HEADERS_AND_COMMANDS,
+        COUNTS_AND_NUMBERS,
+        SECTIONS,
+        WORDS_AND_COMMENTS,
+    ] {
+        scripts_come_out(&rt, rt.alloc(), rows)?;
     }
     Ok(())
 }
@@ -813,11 +793,9 @@ fn scripts_with_words_and_comments(rt: HostRuntime) -> Result<(), Fail> {
 /// So it is with journals.
 #[test]
 fn journals_by_hand(rt: HostRuntime) -> Result<(), Fail> {
-    for (bytes, told, shown, caret) in JOURNALS {
-        let fault = fault_of_journal(rt.alloc(), bytes)?;
-        let seen = told_behind(rt.alloc(), Language::Journal, bytes, fault)?;
-        let due = due(rt.alloc(), told, shown, caret)?;
-        assert_eq!(rt; seen.as_str(), due.as_str());
+    for row in JOURNALS {
+        let fault = fault_of_journal(rt.alloc(), row.0)?;
+        comes_out(&rt, rt.alloc(), Language::Journal, fault, *row)?;
     }
     Ok(())
 }
@@ -828,84 +806,105 @@ fn histories_by_hand(rt: HostRuntime) -> Result<(), Fail> {
     for (bytes, cause, told, shown, caret) in HISTORIES {
         let line = bytes.split(|byte| *byte == b'\n').count() as u64;
         let fault = Some(ScriptFault { line, cause });
-        let seen = told_behind(rt.alloc(), Language::History, bytes, fault)?;
-        let due = due(rt.alloc(), told, shown, caret)?;
-        assert_eq!(rt; seen.as_str(), due.as_str());
+        let row = (bytes, told, shown, caret);
+        comes_out(&rt, rt.alloc(), Language::History, fault, row)?;
     }
     Ok(())
 }
 
-/// So many times this letter.
-fn repeated(alloc: Global, letter: char, count: usize) -> Result<String, Fail> {
-    let mut text = String::new(alloc);
+/// The front, so many times the letter, and the end.
+fn line_of(
+    alloc: Global,
+    front: &str,
+    letter: char,
+    count: usize,
+    end: &str,
+) -> Result<String, Fail> {
+    let mut line = String::new(alloc);
+    line.push_str(front)?;
     for _ in 0..count {
-        text.push(letter)?;
+        line.push(letter)?;
     }
-    Ok(text)
+    line.push_str(end)?;
+    Ok(line)
 }
 
-/// Of a line that is too long, the caret stands under the 121st byte, behind what a tab is shown as; and where it isn't shown whole, 100 bytes
-/// stand in front of the caret and 60 from it on, between dots.
+/// A line that is too long, as a front and how many letters come behind it, and what is told of it; what is shown, as a front, how many of the
+/// letters, and an end; and behind how many spaces its caret stands.
+type LongRow = (
+    &'static str,
+    usize,
+    &'static str,
+    (&'static str, usize, &'static str),
+    usize,
+);
+
+/// The caret stands under the 121st byte, behind what a tab is shown as; and where the line isn't shown whole, 100 bytes stand in front of the
+/// caret and 60 from it on, between dots.
+const LONG_LINES: [LongRow; 2] = [
+    (
+        "\t",
+        120,
+        "f:1:121: read a line of 121 bytes; it may have 120",
+        ("\\t", 120, ""),
+        121,
+    ),
+    (
+        "",
+        200,
+        "f:1:121: read a line of 200 bytes; it may have 120",
+        ("..", 160, ".."),
+        102,
+    ),
+];
+
+/// So it is with scripts of a line that is too long.
 #[test]
 fn long_lines(rt: HostRuntime) -> Result<(), Fail> {
-    let letters = repeated(rt.alloc(), 'x', 120)?;
-    let spaces = repeated(rt.alloc(), ' ', 121)?;
-    let line = format!(in rt.alloc(); "\t{letters}")?;
-    let fault = fault_of_script(rt.alloc(), line.as_bytes());
-    let seen = told_behind(rt.alloc(), Language::Script, line.as_bytes(), fault)?;
-    let due = format!(in rt.alloc();
-        "f:1:121: read a line of 121 bytes; it may have 120\n    \\t{letters}\n    {spaces}^\n"
-    )?;
-    assert_eq!(rt; seen.as_str(), due.as_str());
-    let line = repeated(rt.alloc(), 'x', 200)?;
-    let letters = repeated(rt.alloc(), 'x', 160)?;
-    let spaces = repeated(rt.alloc(), ' ', 102)?;
-    let fault = fault_of_script(rt.alloc(), line.as_bytes());
-    let seen = told_behind(rt.alloc(), Language::Script, line.as_bytes(), fault)?;
-    let due = format!(in rt.alloc();
-        "f:1:121: read a line of 200 bytes; it may have 120\n    ..{letters}..\n    {spaces}^\n"
-    )?;
-    assert_eq!(rt; seen.as_str(), due.as_str());
+    for (front, letters, told, (start, length, end), spaces) in LONG_LINES {
+        let line = line_of(rt.alloc(), front, 'x', letters, "")?;
+        let shown = line_of(rt.alloc(), start, 'x', length, end)?;
+        let caret = line_of(rt.alloc(), "", ' ', spaces, "^")?;
+        let row = (line.as_bytes(), told, shown.as_str(), caret.as_str());
+        scripts_come_out(&rt, rt.alloc(), &[row])?;
+    }
     Ok(())
 }
 
-/// What is told of a fault of this line, where these bytes of a file were kept.
-fn told_at(alloc: Global, language: Language, line: u64) -> Result<String, Fail> {
-    let text = Text {
-        name: "f",
-        language,
-        bytes: b"1 exit\n",
-    };
-    let fault = ScriptFault {
-        line,
-        cause: Cause::TooLong,
-    };
-    Ok(told_of(alloc, text, fault)?)
-}
+/// Languages, lines, and what is told where a line of that number, which may be 0, is too long, and just one line of 7 bytes was kept: a file
+/// that is too long as a whole has no line 0, and a line that wasn't kept isn't shown.
+const NOT_THERE: [(Language, u64, &str); 4] = [
+    (
+        Language::Script,
+        0,
+        "f: it is too long; it may have 1048576 bytes\n",
+    ),
+    (
+        Language::Journal,
+        0,
+        "f: it is too long; it may have 67108864 bytes\n",
+    ),
+    (
+        Language::History,
+        0,
+        "f: it is too long; it may have 1099511627776 bytes\n",
+    ),
+    (
+        Language::History,
+        2,
+        "f:2: the line comes after the 7 bytes that were kept\n",
+    ),
+];
 
-/// A file that is too long as a whole has no line 0, and a line that wasn't kept isn't shown.
+/// So it is with these lines.
 #[test]
 fn lines_that_are_not_there(rt: HostRuntime) -> Result<(), Fail> {
-    let script = told_at(rt.alloc(), Language::Script, 0)?;
-    assert_eq!(rt;
-        script.as_str(),
-        "f: it is too long; it may have 1048576 bytes\n"
-    );
-    let journal = told_at(rt.alloc(), Language::Journal, 0)?;
-    assert_eq!(rt;
-        journal.as_str(),
-        "f: it is too long; it may have 67108864 bytes\n"
-    );
-    let history = told_at(rt.alloc(), Language::History, 0)?;
-    assert_eq!(rt;
-        history.as_str(),
-        "f: it is too long; it may have 1099511627776 bytes\n"
-    );
-    let behind = told_at(rt.alloc(), Language::History, 2)?;
-    assert_eq!(rt;
-        behind.as_str(),
-        "f:2: the line comes after the 7 bytes that were kept\n"
-    );
+    for (language, line, due) in NOT_THERE {
+        let cause = Cause::TooLong;
+        let fault = Some(ScriptFault { line, cause });
+        let seen = told_behind(rt.alloc(), language, b"1 exit\n", fault)?;
+        same(&rt, seen.as_str(), due);
+    }
     Ok(())
 }
 
@@ -961,7 +960,7 @@ const ILLEGAL: [(&str, &str); 9] = [
 fn illegal_journals_by_hand(rt: HostRuntime) -> Result<(), Fail> {
     for (journal, told) in ILLEGAL {
         let seen = told_of_illegal(rt.alloc(), "f", journal.as_bytes())?;
-        assert_eq!(rt; seen.as_str(), told);
+        same(&rt, seen.as_str(), told);
     }
     Ok(())
 }
@@ -989,7 +988,7 @@ const HEADLESS: [(&str, &str); 5] = [
 fn headless_journals_by_hand(rt: HostRuntime) -> Result<(), Fail> {
     for (journal, told) in HEADLESS {
         let seen = told_of_headers(rt.alloc(), journal.as_bytes())?;
-        assert_eq!(rt; seen, told);
+        same(&rt, seen, told);
     }
     Ok(())
 }

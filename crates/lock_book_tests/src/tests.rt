@@ -4,8 +4,14 @@ ghost use Rattle.std.specs.Prelude.{◌≡◌};
 use lock_book::{Blocker, Book, Held, Owner};
 use range_core::{Memory, Mode, OFFMAX, Span};
 use std::alloc::Global;
+use std::fmt::Debug;
 use std::process::Abort;
 use std::test::Fail;
+
+/// The two are the same.
+fn same<T: PartialEq + Debug + Drop>(rt: &impl Abort, left: T, right: T) {
+    assert_eq!(rt; left, right);
+}
 
 /// The bytes of a range by its first and its last one.
 fn bytes(first: u64, last: u64) -> Span
@@ -47,7 +53,7 @@ fn holds_room_and_places(rt: HostRuntime) -> Result<(), Fail> {
     assert!(rt; book.blocked(Owner::Process(1), bytes(9, 9), Mode::Read));
     book.flock_reserve(1)?;
     book.flock_set_reserved(1, Some(Mode::Read));
-    assert_eq!(rt; book.flock_mode(1), Some(Mode::Read));
+    same(&rt, book.flock_mode(1), Some(Mode::Read));
     Ok(())
 }
 
@@ -91,32 +97,37 @@ fn rooms_of(book: &Book) -> ([usize; 2], [bool; 2]) {
     )
 }
 
-/// Where a growth is refused, as by a test run with one allocation failing, the book is as before and the next try goes
+/// The call is made. Where its growth is refused, as by a test run with one allocation failing, the book is as before and the next try goes
 /// through.
+fn grow(rt: &impl Abort, book: &mut Book, growth: Growth) -> Result<(), Memory> {
+    let before = held_again(rt, book)?;
+    let rooms = rooms_of(book);
+    if growth.apply(book).is_err() {
+        same(rt, held_again(rt, book)?.as_slice(), before.as_slice());
+        same(rt, rooms_of(book), rooms);
+        let second = growth.apply(book);
+        assert!(rt; second.is_ok(), "refused again: {growth:?}");
+    }
+    Ok(())
+}
+
+/// Calls in turn, each of which may be refused its growth.
+const GROWTHS: [Growth; 7] = [
+    Growth::Set(Owner::Process(1)),
+    Growth::Reserve(Owner::Process(1)),
+    Growth::Reserve(Owner::Description(1)),
+    Growth::Set(Owner::Description(1)),
+    Growth::FlockReserve(1),
+    Growth::FlockSet(1),
+    Growth::FlockSet(2),
+];
+
+/// A refused growth changes nothing, so whichever is refused, the book comes to the same.
 #[test]
 fn refused_growth_changes_nothing(rt: HostRuntime) -> Result<(), Fail> {
     let mut book = Book::new(rt.alloc());
-    for growth in [
-        Growth::Set(Owner::Process(1)),
-        Growth::Reserve(Owner::Process(1)),
-        Growth::Reserve(Owner::Description(1)),
-        Growth::Set(Owner::Description(1)),
-        Growth::FlockReserve(1),
-        Growth::FlockSet(1),
-        Growth::FlockSet(2),
-    ] {
-        let before = held_again(&rt, &book)?;
-        let rooms = rooms_of(&book);
-        if growth.apply(&mut book).is_err() {
-            assert_eq!(rt;
-                held_again(&rt, &book)?.as_slice(),
-                before.as_slice(),
-                "{growth:?}"
-            );
-            assert!(rt; rooms_of(&book) == rooms);
-            let second = growth.apply(&mut book);
-            assert!(rt; second.is_ok(), "refused again: {growth:?}");
-        }
+    for growth in GROWTHS {
+        grow(&rt, &mut book, growth)?;
     }
     let wanted = [
         byte_line(Owner::Process(1), Mode::Write, 2, 5),
@@ -124,7 +135,7 @@ fn refused_growth_changes_nothing(rt: HostRuntime) -> Result<(), Fail> {
         flock_line(1, Mode::Read),
         flock_line(2, Mode::Read),
     ];
-    assert_eq!(rt; held_again(&rt, &book)?.as_slice(), wanted.as_slice());
+    same(&rt, held_again(&rt, &book)?.as_slice(), wanted.as_slice());
     assert!(rt; book.room(Owner::Process(1)) >= 100);
     Ok(())
 }
@@ -151,12 +162,11 @@ fn walk_finds_for_all(held: &[Option<Mode>], wanted: Mode) -> bool {
     true
 }
 
-/// Flock locks of more descriptions than a small limit allows, each set, changed and removed: who is blocked is what a walk
-/// over all of them finds.
-#[test]
-fn counts_flock_locks_as_a_walk_does(rt: HostRuntime) -> Result<(), Fail> {
-    let mut book = Book::new(rt.alloc());
-    let mut held = [None; 700];
+/// The modes of so many descriptions, more than a small limit allows.
+type Modes = [Option<Mode>; 700];
+
+/// The descriptions in some order set, change and remove their flock locks.
+fn set_flocks(book: &mut Book, held: &mut Modes) -> Result<(), Memory> {
     for turn in 0..1500usize {
         let description = turn * 37 % 700;
         let mode = [
@@ -169,16 +179,30 @@ fn counts_flock_locks_as_a_walk_does(rt: HostRuntime) -> Result<(), Fail> {
         book.flock_set(description as u64, mode)?;
         held[description] = mode;
     }
-    for description in 0..700usize {
-        for wanted in [Mode::Read, Mode::Write] {
-            assert!(rt;
-                book.flock_blocked(description as u64, wanted)
-                    == walk_finds(&held, description, wanted)
-            );
-            if description % 50 == 0 || description > 690 {
-                assert!(rt; book.flock_blocks_all(wanted) == walk_finds_for_all(&held, wanted));
-            }
+    Ok(())
+}
+
+/// Whether the description is kept from a mode, and now and then whether all are, is what a walk finds.
+fn blocks_as_a_walk(rt: &impl Abort, book: &Book, held: &Modes, description: usize) {
+    for wanted in [Mode::Read, Mode::Write] {
+        let is_blocked = book.flock_blocked(description as u64, wanted);
+        same(rt, is_blocked, walk_finds(held, description, wanted));
+        if description % 50 == 0 || description > 690 {
+            let blocks_all = book.flock_blocks_all(wanted);
+            same(rt, blocks_all, walk_finds_for_all(held, wanted));
         }
+    }
+}
+
+/// Flock locks of more descriptions than a small limit allows, each set, changed and removed: who is blocked is what a walk
+/// over all of them finds.
+#[test]
+fn counts_flock_locks_as_a_walk_does(rt: HostRuntime) -> Result<(), Fail> {
+    let mut book = Book::new(rt.alloc());
+    let mut held = [None; 700];
+    set_flocks(&mut book, &mut held)?;
+    for description in 0..700usize {
+        blocks_as_a_walk(&rt, &book, &held, description);
         book.flock_set(description as u64, None)?;
         held[description] = None;
     }
@@ -187,34 +211,44 @@ fn counts_flock_locks_as_a_walk_does(rt: HostRuntime) -> Result<(), Fail> {
     Ok(())
 }
 
+/// An owner that has no lock.
+const ASKER: Owner = Owner::Process(1);
+
+/// More owners than a small limit allows come, each with a byte of its own.
+fn come(book: &mut Book) -> Result<(), Memory> {
+    for number in 0..700u64 {
+        let owner = Owner::Description(number);
+        book.set(owner, bytes(number, number), Some(Mode::Read))?;
+    }
+    Ok(())
+}
+
+/// They go, and each is the first that is in the way until then.
+fn go(rt: &impl Abort, book: &mut Book) -> Result<(), Memory> {
+    for number in 0..700u64 {
+        let owner = Owner::Description(number);
+        let blocker = Blocker {
+            owner,
+            mode: Mode::Read,
+            span: bytes(number, number),
+        };
+        assert!(rt; book.blocked(ASKER, bytes(0, OFFMAX), Mode::Write));
+        let first = book.first_blocker(ASKER, bytes(0, OFFMAX), Mode::Write);
+        same(rt, first, Some(blocker));
+        book.set(owner, bytes(0, OFFMAX), None)?;
+        assert!(rt; !book.blocked(ASKER, bytes(0, number), Mode::Write));
+    }
+    Ok(())
+}
+
 /// More owners than a small limit allows, each with a byte of its own, that come and go.
 #[test]
 fn many_owners_come_and_go(rt: HostRuntime) -> Result<(), Fail> {
     let mut book = Book::new(rt.alloc());
-    let asker = Owner::Process(1);
-    for number in 0..700u64 {
-        book.set(
-            Owner::Description(number),
-            bytes(number, number),
-            Some(Mode::Read),
-        )?;
-    }
-    assert!(rt; book.held(3)?.len() == 700);
-    assert!(rt; !book.blocked(asker, bytes(0, OFFMAX), Mode::Read));
-    for number in 0..700u64 {
-        let blocker = Blocker {
-            owner: Owner::Description(number),
-            mode: Mode::Read,
-            span: bytes(number, number),
-        };
-        assert!(rt; book.blocked(asker, bytes(0, OFFMAX), Mode::Write));
-        assert_eq!(rt;
-            book.first_blocker(asker, bytes(0, OFFMAX), Mode::Write),
-            Some(blocker)
-        );
-        book.set(Owner::Description(number), bytes(0, OFFMAX), None)?;
-        assert!(rt; !book.blocked(asker, bytes(0, number), Mode::Write));
-    }
+    come(&mut book)?;
+    same(&rt, book.held(3)?.len(), 700);
+    assert!(rt; !book.blocked(ASKER, bytes(0, OFFMAX), Mode::Read));
+    go(&rt, &mut book)?;
     assert!(rt; book.held(3)?.is_empty());
     Ok(())
 }
@@ -375,19 +409,20 @@ impl Compared {
         let wanted = spelled_mode(self.seed >> 53);
         let least = first_plainly(&self.locks, asker, asked, wanted);
         assert!(rt; asked.first <= asked.last && asked.last <= OFFMAX);
-        assert_eq!(rt;
-            self.book.blocked(asker, asked, wanted),
-            least.is_some(),
-            "at step {step}"
-        );
+        let is_blocked = self.book.blocked(asker, asked, wanted);
         let blocker = self.book.first_blocker(asker, asked, wanted);
-        assert_eq!(rt; blocker.is_some(), least.is_some(), "at step {step}");
+        let are_blocked = (is_blocked, blocker.is_some());
+        same(
+            rt,
+            (step, are_blocked),
+            (step, (least.is_some(), least.is_some())),
+        );
         if let (Some(blocker), Some(least)) = (blocker, least) {
-            assert_eq!(rt; blocker.owner, least.owner, "at step {step}");
-            assert_eq!(rt; blocker.mode, least.mode, "at step {step}");
+            let told = (step, blocker.owner, blocker.mode);
+            same(rt, told, (step, least.owner, least.mode));
             assert!(rt; blocker.span.first <= least.byte && least.byte <= blocker.span.last);
         }
-        assert_eq!(rt; self.book.is_empty(), self.locks.is_empty());
+        same(rt, self.book.is_empty(), self.locks.is_empty());
     }
 }
 

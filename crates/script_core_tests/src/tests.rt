@@ -14,14 +14,19 @@ use script_core::{
 };
 use session_core::{Entry, Notes, run_all};
 use std::alloc::Global;
+use std::fmt::Debug;
 use std::process::Abort;
 use std::test::Fail;
 use wait_core::Policy;
 
 /// What a call comes to that is made again after a growth was refused: it must succeed, for at most one is refused in a run.
-fn again<T>(rt: &impl Abort, second: Result<T, Memory>) -> Result<T, Memory> {
-    assert!(rt; second.is_ok(), "refused again");
-    second
+fn again<T>(rt: &impl Abort, second: Result<T, Memory>) -> T {
+    second.expect(rt, "refused again")
+}
+
+/// The two are the same.
+fn same<T: PartialEq + Debug + Drop>(rt: &impl Abort, left: T, right: T) {
+    assert_eq!(rt; left, right);
 }
 
 /// A refused growth of `parse` is told of one of the lines, whatever the script says; and then the script is read as ever.
@@ -49,7 +54,7 @@ fn check_parse(rt: &impl Abort, alloc: Global, script: &[u8], expected: Option<S
         None => Ok(3),
         Some(fault) => Err(fault),
     };
-    assert_eq!(rt; found, due);
+    same(rt, found, due);
 }
 
 /// A refused growth of `write_entry` leaves the old bytes and a front of the text, and written again behind these it is the whole one.
@@ -77,15 +82,12 @@ fn write_without_memory(rt: HostRuntime) {
     let lines = [&whole[..26], whole];
     for line in lines {
         let old = out.len();
-        match write_entry(&entry, &mut out) {
-            Ok(()) => assert_eq!(rt; out.as_slice(), line),
-            Err(_) => {
-                assert!(rt; old <= out.len() && line.starts_with(&out));
-                out.truncate(old);
-                assert!(rt; write_entry(&entry, &mut out).is_ok());
-                assert_eq!(rt; out.as_slice(), line);
-            }
+        if write_entry(&entry, &mut out).is_err() {
+            assert!(rt; old <= out.len() && line.starts_with(&out));
+            out.truncate(old);
+            assert!(rt; write_entry(&entry, &mut out).is_ok());
         }
+        same(&rt, out.as_slice(), line);
     }
 }
 
@@ -125,7 +127,7 @@ fn write_report_without_memory(rt: HostRuntime) -> Result<(), Fail> {
         let second = write_report(session.sequencer(), &[3, 2], &mut out);
         assert!(rt; second.is_ok(), "refused again");
     }
-    assert_eq!(rt; out.as_slice(), REPORT);
+    same(&rt, out.as_slice(), REPORT);
     Ok(())
 }
 
@@ -148,10 +150,10 @@ fn read_journal_without_memory(rt: HostRuntime) {
     ] {
         if let Err(fault) = reader.next(line.as_bytes()) {
             assert!(rt; matches!(fault, JournalFault::Memory(_)), "{fault}");
-            assert_eq!(rt; reader.next(line.as_bytes()), Ok(()), "{line}");
+            assert!(rt; reader.next(line.as_bytes()).is_ok(), "{line}");
         }
     }
-    assert_eq!(rt; reader.finish(), Ok(()));
+    same(&rt, reader.finish(), Ok(()));
 }
 
 /// Want of memory is told of a line with a note alone, where nothing else is wrong with what stands before it.
@@ -168,12 +170,11 @@ fn parse_entry_without_memory(rt: HostRuntime) {
             assert!(rt; notes > 0, "{line:?}");
             found = parse_entry(rt.alloc(), Limits::Small, line);
         }
-        match found {
-            Ok(entry) => {
-                assert_eq!(rt; fault, None);
-                assert_eq!(rt; entry.notes.as_slice().len(), notes);
-            }
-            Err(cause) => assert_eq!(rt; Some(cause), fault),
-        }
+        let told = found.map(|entry| entry.notes.as_slice().len());
+        let due = match fault {
+            None => Ok(notes),
+            Some(cause) => Err(cause),
+        };
+        same(&rt, told, due);
     }
 }

@@ -12,6 +12,7 @@ use lock_manager::{FlockOp, LkCmd, Lock, Note, ProcState, Reply, Request, Rules}
 use range_core::{Kind, Memory, Mode, OFFMAX, Span, Whence};
 use session_core::{ArriveFault, N_MAX, RunAllFault, Session, run_all};
 use std::alloc::Global;
+use std::fmt::Debug;
 use std::process::Abort;
 use std::test::Fail;
 use wait_core::{Policy, Wait};
@@ -178,37 +179,36 @@ struct Run {
 }
 
 /// What a call comes to that is made again after a growth was refused.
-fn again<T>(rt: &impl Abort, second: Result<T, Memory>) -> Result<T, Memory> {
-    assert!(rt; second.is_ok(), "refused again");
-    second
+fn again<T>(rt: &impl Abort, second: Result<T, Memory>) -> T {
+    second.expect(rt, "refused again")
+}
+
+/// The two are the same.
+fn same<T: PartialEq + Debug + Drop>(rt: &impl Abort, left: T, right: T) {
+    assert_eq!(rt; left, right);
 }
 
 /// A session of 1 to 16 processes.
-fn session_of(
-    rt: &impl Abort,
-    alloc: Global,
-    processes: u8,
-    policy: Policy,
-) -> Result<Session, Memory> {
+fn session_of(rt: &impl Abort, alloc: Global, processes: u8, policy: Policy) -> Session {
     assert!(rt; 1 <= processes && processes <= 16);
     let limits = Limits::Small;
     match Session::new(alloc, processes, Rules { policy, limits }) {
+        Ok(session) => session,
         Err(_) => again(rt, Session::new(alloc, processes, Rules { policy, limits })),
-        first => first,
     }
 }
 
-fn all_held(rt: &impl Abort, session: &Session) -> Result<Vec<Held>, Memory> {
+fn all_held(rt: &impl Abort, session: &Session) -> Vec<Held> {
     match session.manager().held() {
+        Ok(held) => held,
         Err(_) => again(rt, session.manager().held()),
-        first => first,
     }
 }
 
-fn all_waits(rt: &impl Abort, session: &Session) -> Result<Vec<Wait>, Memory> {
+fn all_waits(rt: &impl Abort, session: &Session) -> Vec<Wait> {
     match session.manager().waits() {
+        Ok(waits) => waits,
         Err(_) => again(rt, session.manager().waits()),
-        first => first,
     }
 }
 
@@ -234,27 +234,30 @@ struct Standing {
     waits: Vec<Wait>,
 }
 
-fn standing_of(rt: &impl Abort, session: &Session) -> Result<Standing, Memory> {
+fn standing_of(rt: &impl Abort, session: &Session) -> Standing {
     let manager = session.manager();
-    Ok(Standing {
+    Standing {
         counts: counts(session),
         states: [
             manager.state_of(1),
             manager.state_of(2),
             manager.state_of(3),
         ],
-        locks: all_held(rt, session)?,
-        waits: all_waits(rt, session)?,
-    })
+        locks: all_held(rt, session),
+        waits: all_waits(rt, session),
+    }
 }
 
 /// The session stands as it did before.
-fn assert_stands(rt: &impl Abort, session: &Session, before: &Standing) -> Result<(), Memory> {
-    let after = standing_of(rt, session)?;
-    assert!(rt; after.counts == before.counts && after.states == before.states);
-    assert!(rt; after.locks.as_slice() == before.locks.as_slice());
-    assert!(rt; after.waits.as_slice() == before.waits.as_slice());
-    Ok(())
+fn assert_stands(rt: &impl Abort, session: &Session, before: &Standing) {
+    let after = standing_of(rt, session);
+    same(
+        rt,
+        (after.counts, after.states),
+        (before.counts, before.states),
+    );
+    same(rt, after.locks.as_slice(), before.locks.as_slice());
+    same(rt, after.waits.as_slice(), before.waits.as_slice());
 }
 
 /// [`Session::arrive`].
@@ -275,10 +278,10 @@ fn arrive(
     p: u8,
     request: Request,
 ) -> Result<u64, ArriveFault> {
-    let before = standing_of(rt, session)?;
+    let before = standing_of(rt, session);
     match arrive_once(rt, session, p, request) {
         Err(ArriveFault::Memory(_)) => {
-            assert_stands(rt, session, &before)?;
+            assert_stands(rt, session, &before);
             let second = arrive_once(rt, session, p, request);
             assert!(rt;
                 !matches!(second, Err(ArriveFault::Memory(_))),
@@ -291,12 +294,12 @@ fn arrive(
 }
 
 /// `take_next`, likewise.
-fn take_next(rt: &impl Abort, session: &mut Session) -> Result<Option<u64>, Memory> {
-    let before = standing_of(rt, session)?;
+fn take_next(rt: &impl Abort, session: &mut Session) -> Option<u64> {
+    let before = standing_of(rt, session);
     match session.take_next() {
-        Ok(place) => Ok(place),
+        Ok(place) => place,
         Err(_) => {
-            assert_stands(rt, session, &before)?;
+            assert_stands(rt, session, &before);
             again(rt, session.take_next())
         }
     }
@@ -315,29 +318,24 @@ fn take_one_once(
 }
 
 /// The same, likewise.
-fn take_one(
-    rt: &impl Abort,
-    session: &mut Session,
-    p: u8,
-    request: Request,
-) -> Result<u64, Memory> {
-    let before = standing_of(rt, session)?;
-    let first = take_one_once(rt, session, p, request);
-    if first.is_ok() {
-        return first;
+fn take_one(rt: &impl Abort, session: &mut Session, p: u8, request: Request) -> u64 {
+    let before = standing_of(rt, session);
+    match take_one_once(rt, session, p, request) {
+        Ok(place) => place,
+        Err(_) => {
+            assert_stands(rt, session, &before);
+            again(rt, take_one_once(rt, session, p, request))
+        }
     }
-    assert_stands(rt, session, &before)?;
-    again(rt, take_one_once(rt, session, p, request))
 }
 
 /// Takes until nothing can be taken, 16 times at most.
-fn take_all(rt: &impl Abort, session: &mut Session) -> Result<(), Memory> {
+fn take_all(rt: &impl Abort, session: &mut Session) {
     for _ in 0..16 {
-        if take_next(rt, session)?.is_none() {
+        if take_next(rt, session).is_none() {
             break;
         }
     }
-    Ok(())
 }
 
 /// Just this was told.
@@ -359,14 +357,14 @@ fn told(session: &Session, place: usize, wanted: &[Said]) -> bool {
 }
 
 /// Just these locks are held.
-fn holds(rt: &impl Abort, session: &Session, wanted: &[Kept]) -> Result<bool, Memory> {
-    let locks = all_held(rt, session)?;
+fn holds(rt: &impl Abort, session: &Session, wanted: &[Kept]) -> bool {
+    let locks = all_held(rt, session);
     for (lock, kept) in locks.iter().zip(wanted) {
         if *lock != kept.held() {
-            return Ok(false);
+            return false;
         }
     }
-    Ok(locks.len() == wanted.len())
+    locks.len() == wanted.len()
 }
 
 /// The step is made, or looked at: whether it came out so.
@@ -374,17 +372,17 @@ fn comes_out(rt: &impl Abort, session: &mut Session, step: Step) -> Result<bool,
     Ok(match step {
         Step::Asks(p, ask) => {
             arrive(rt, session, p, ask.request())?;
-            take_all(rt, session)?;
+            take_all(rt, session);
             true
         }
         Step::Sends(p, ask, n) => arrive(rt, session, p, ask.request())? == n,
-        Step::Takes(place) => take_next(rt, session)? == place,
-        Step::TakesOne(p, ask, place) => take_one(rt, session, p, ask.request())? == place,
+        Step::Takes(place) => take_next(rt, session) == place,
+        Step::TakesOne(p, ask, place) => take_one(rt, session, p, ask.request()) == place,
         Step::Counts(wanted) => counts(session) == wanted,
         Step::Told(place, said) => told(session, place, said),
         Step::Answered(p, n, reply) => session.answer_of(p, n) == reply,
         Step::Stands(p, state) => session.manager().state_of(p) == state,
-        Step::Holds(locks) => holds(rt, session, locks)?,
+        Step::Holds(locks) => holds(rt, session, locks),
     })
 }
 
@@ -403,7 +401,7 @@ fn assert_comes_out(
 
 /// The run comes out as its steps say.
 fn assert_run(rt: &impl Abort, alloc: Global, run: &Run) -> Result<(), ArriveFault> {
-    let mut session = session_of(rt, alloc, run.processes, run.policy)?;
+    let mut session = session_of(rt, alloc, run.processes, run.policy);
     assert_comes_out(rt, &mut session, run.name, run.opening)?;
     assert_comes_out(rt, &mut session, run.name, run.steps)
 }

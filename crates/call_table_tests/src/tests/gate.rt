@@ -1,10 +1,10 @@
 //! A client that acts in a thread of its own while the desk stands at its gate.
-use super::RULES;
 use super::table::{Answer, Caller, LOCKED, Server, advance, open_table, with_hub};
 use super::threads::TURNS;
+use super::{RULES, same};
 use call_table::{Busy, Gate, Served};
 use lock_manager::{LkCmd, Lock, Reply, Request};
-use range_core::{Kind, Memory, Mode, Whence};
+use range_core::{Kind, Mode, Whence};
 use std::process::Abort;
 use std::sync::Wait;
 use std::sync::atomic::{AtomicBool, AtomicU64, Ordering};
@@ -148,21 +148,15 @@ const ROWS: &[Row] = &[
 ];
 
 /// Process 1 has a lock, and process 2 asks for it, which isn't served.
-fn lock_and_look(
-    rt: &impl Abort,
-    first: &mut Caller,
-    second: &mut Caller,
-    server: &mut Server,
-) -> Result<(), Memory> {
-    advance(rt, first, second, server, LOCKED)?;
+fn lock_and_look(rt: &impl Abort, first: &mut Caller, second: &mut Caller, server: &mut Server) {
+    advance(rt, first, second, server, LOCKED);
     assert!(rt; second.post(LOOK).is_ok());
-    Ok(())
 }
 
 /// The client collects just these answers, one after another.
 fn collect_all(rt: &impl Abort, client: &mut Caller, answers: &[Answer]) {
     for answer in answers {
-        assert!(rt; client.collect() == Some(*answer));
+        same(rt, client.collect(), Some(*answer));
     }
 }
 
@@ -178,7 +172,7 @@ fn serve_while_it_acts<'a, R: Threads + Wait + Abort + Sync>(
         let served = server.serve(rt, gate);
         gate.served.store(true, Ordering::SeqCst);
         let acted = acting.join(rt);
-        Ok((served?, acted))
+        Ok((served, acted))
     })
 }
 
@@ -191,12 +185,12 @@ fn act_at_the_gate<R: Threads + Wait + Abort + Sync>(
 ) -> Result<(), Fail> {
     let gate = Acting::new();
     let (served, acted) = serve_while_it_acts(rt, client, server, &gate)?;
-    assert!(rt; served == Served::Took(4));
-    assert!(rt; gate.calls.seen() == (1, 4));
+    same(rt, served, Served::Took(4));
+    same(rt, gate.calls.seen(), (1, 4));
     assert!(rt; gate.seen.load(Ordering::SeqCst));
     let (mut client, came) = acted.expect(rt, "the desk stood at its gate");
-    assert!(rt; came == (Ok(row.posted), row.meanwhile));
-    assert!(rt; client.collect() == row.next);
+    same(rt, came, (Ok(row.posted), row.meanwhile));
+    same(rt, client.collect(), row.next);
     Ok(())
 }
 
@@ -207,7 +201,7 @@ fn a_client_acts_while_the_desk_serves(rt: HostRuntime) -> Result<(), Fail> {
     for row in ROWS {
         let (hub, first, last, desk) = open_table(&rt, rt.alloc(), 2, 4, RULES)?;
         let (mut first, mut second, mut server) = with_hub(&hub, first, last, desk);
-        lock_and_look(&rt, &mut first, &mut second, &mut server)?;
+        lock_and_look(&rt, &mut first, &mut second, &mut server);
         if row.process == 2 {
             mem::swap(&mut first, &mut second);
         }
@@ -225,15 +219,15 @@ fn the_gate_is_called_once_for_each_taken_request(rt: HostRuntime) -> Result<(),
     let (hub, first, last, desk) = open_table(&rt, rt.alloc(), 2, 4, RULES)?;
     let (mut first, mut second, mut server) = with_hub(&hub, first, last, desk);
     let gate = Calls::none();
-    advance(&rt, &mut first, &mut second, &mut server, LOCKED)?;
-    assert!(rt; server.serve(&rt, &gate)? == Served::Idle);
-    assert!(rt; second.post(LOOK) == Ok(1));
-    assert!(rt; gate.seen() == (0, 0));
-    assert!(rt; server.serve(&rt, &gate)? == Served::Took(4));
-    assert!(rt; gate.seen() == (1, 4));
-    assert!(rt; server.serve(&rt, &gate)? == Served::Idle);
+    advance(&rt, &mut first, &mut second, &mut server, LOCKED);
+    same(&rt, server.serve(&rt, &gate), Served::Idle);
+    same(&rt, second.post(LOOK), Ok(1));
+    same(&rt, gate.seen(), (0, 0));
+    same(&rt, server.serve(&rt, &gate), Served::Took(4));
+    same(&rt, gate.seen(), (1, 4));
+    same(&rt, server.serve(&rt, &gate), Served::Idle);
     server.close();
-    assert!(rt; server.serve(&rt, &gate)? == Served::Closed);
-    assert!(rt; gate.seen() == (1, 4));
+    same(&rt, server.serve(&rt, &gate), Served::Closed);
+    same(&rt, gate.seen(), (1, 4));
     Ok(())
 }

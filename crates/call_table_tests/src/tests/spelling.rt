@@ -1,5 +1,5 @@
 //! Requests and answers as the six words that crates/call_table/README.md gives.
-use super::OPEN;
+use super::{OPEN, same};
 use fd_table::Access;
 use lock_manager::{Errno, FlockOp, LkCmd, Lock, Reply, Request};
 use range_core::{Kind, Mode, Whence};
@@ -62,10 +62,10 @@ const ANSWERS: &[(Reply, u64, [u64; 6])] = &[
 #[test]
 fn requests_and_answers_have_these_words(rt: HostRuntime) -> Result<(), Fail> {
     for (request, words) in REQUESTS {
-        assert!(rt; spell_request(*request) == *words);
+        same(&rt, spell_request(*request), *words);
     }
     for (reply, place, words) in ANSWERS {
-        assert!(rt; spell_answer(*reply, *place) == *words);
+        same(&rt, spell_answer(*reply, *place), *words);
     }
     Ok(())
 }

@@ -4,7 +4,7 @@ ghost use Rattle.fd_table.specs.Descriptors.{process_limit};
 ghost use Rattle.call_table.specs.Desks.{IsDeskOf, IsOpened};
 ghost use Rattle.call_table.specs.Shown.{IsClientOf};
 
-use super::{FORK, OPEN, RULES, SEEK, WIDE, again};
+use super::{FORK, OPEN, RULES, SEEK, WIDE, again, same};
 use call_table::{Busy, Client, Desk, Gate, Hub, Served, open_hub};
 use lock_manager::{LkCmd, Lock, Reply, Request, Rules};
 use range_core::{Kind, Memory, Whence};
@@ -53,10 +53,10 @@ pub struct Server<'a> {
 }
 
 impl Server<'_> {
-    pub fn serve<R: Abort, G: Gate>(&mut self, rt: &R, gate: &G) -> Result<Served, Memory> {
+    pub fn serve<R: Abort, G: Gate>(&mut self, rt: &R, gate: &G) -> Served {
         match self.desk.serve_one(self.hub, gate) {
+            Ok(served) => served,
             Err(_) => again(rt, self.desk.serve_one(self.hub, gate)),
-            first => first,
         }
     }
 
@@ -127,7 +127,7 @@ pub fn advance(
     last: &mut Caller,
     server: &mut Server,
     requests: &[(u8, Request)],
-) -> Result<(), Memory> {
+) {
     for (process, request) in requests {
         let posted = if *process == 1 {
             first.post(*request)
@@ -135,9 +135,8 @@ pub fn advance(
             last.post(*request)
         };
         assert!(rt; posted.is_ok());
-        assert!(rt; matches!(server.serve(rt, &Open)?, Served::Took(_)));
+        assert!(rt; matches!(server.serve(rt, &Open), Served::Took(_)));
     }
-    Ok(())
 }
 
 /// Process 2 is there, and process 1 has a lock.
@@ -154,11 +153,10 @@ fn fill(rt: &impl Abort, caller: &mut Caller) {
 }
 
 /// The desk takes all that both posted.
-fn serve_both(rt: &impl Abort, server: &mut Server) -> Result<(), Memory> {
+fn serve_both(rt: &impl Abort, server: &mut Server) {
     for _ in 0..2 * DEPTH {
-        assert!(rt; matches!(server.serve(rt, &Open)?, Served::Took(_)));
+        assert!(rt; matches!(server.serve(rt, &Open), Served::Took(_)));
     }
-    Ok(())
 }
 
 /// The client collects the answer to each of them.
@@ -172,24 +170,18 @@ fn empty(rt: &impl Abort, caller: &mut Caller) {
 const FORKED: &[(u8, Request)] = &[(1, OPEN), (1, Request::Fork { child: 64 })];
 
 /// Both clients fill their cells and empty them, again and again: 5,056 requests.
-fn pass_often(
-    rt: &impl Abort,
-    first: &mut Caller,
-    last: &mut Caller,
-    server: &mut Server,
-) -> Result<(), Memory> {
-    advance(rt, first, last, server, FORKED)?;
-    assert!(rt; first.collect() == Some((1, Reply::Fd(0), 1)));
-    assert!(rt; first.collect() == Some((2, Reply::Ok, 2)));
+fn pass_often(rt: &impl Abort, first: &mut Caller, last: &mut Caller, server: &mut Server) {
+    advance(rt, first, last, server, FORKED);
+    same(rt, first.collect(), Some((1, Reply::Fd(0), 1)));
+    same(rt, first.collect(), Some((2, Reply::Ok, 2)));
     for _ in 0..79 {
         fill(rt, first);
         fill(rt, last);
-        serve_both(rt, server)?;
+        serve_both(rt, server);
         empty(rt, first);
         empty(rt, last);
     }
-    assert!(rt; server.desk.session().journal().len() == 5058);
-    Ok(())
+    same(rt, server.desk.session().journal().len(), 5058);
 }
 
 /// Thousands of requests of the first client and of the last one pass the largest table, more than any plausible cap of it.
@@ -197,28 +189,23 @@ fn pass_often(
 fn thousands_pass_the_table_often(rt: HostRuntime) -> Result<(), Fail> {
     let (hub, first, last, desk) = open_table(&rt, rt.alloc(), 64, DEPTH, WIDE)?;
     let (mut first, mut last, mut server) = with_hub(&hub, first, last, desk);
-    pass_often(&rt, &mut first, &mut last, &mut server)?;
+    pass_often(&rt, &mut first, &mut last, &mut server);
     Ok(())
 }
 
 /// [`Desk::serve_one`], and once more where a growth was refused: then nothing new is shown to this client, to which nothing was.
-fn serve_unseen(
-    rt: &impl Abort,
-    hub: &Hub,
-    desk: &mut Desk,
-    client: &mut Client,
-) -> Result<Served, Memory>
+fn serve_unseen(rt: &impl Abort, hub: &Hub, desk: &mut Desk, client: &mut Client) -> Served
     requires desk { IsDeskOf hub.now desk.old }
     requires client { IsClientOf hub.now client.old }
     ensures desk { IsDeskOf hub.now desk.new }
     ensures client { IsClientOf hub.now client.new }
 {
     match desk.serve_one(hub, &Open) {
+        Ok(served) => served,
         Err(_) => {
             assert!(rt; client.collect(hub).is_none());
             again(rt, desk.serve_one(hub, &Open))
         }
-        first => first,
     }
 }
 
@@ -227,12 +214,14 @@ fn serve_unseen(
 #[test]
 fn a_dropped_client_is_served(rt: HostRuntime) -> Result<(), Fail> {
     let (hub, mut first, mut last, mut desk) = open_table(&rt, rt.alloc(), 2, 1, RULES)?;
-    assert!(rt; first.post(&hub, FORK) == Ok(1));
+    same(&rt, first.post(&hub, FORK), Ok(1));
     drop(first);
-    assert!(rt; serve_unseen(&rt, &hub, &mut desk, &mut last)? == Served::Took(1));
-    assert!(rt; last.post(&hub, OPEN) == Ok(1));
-    assert!(rt; serve_unseen(&rt, &hub, &mut desk, &mut last)? == Served::Took(2));
+    let served = serve_unseen(&rt, &hub, &mut desk, &mut last);
+    same(&rt, served, Served::Took(1));
+    same(&rt, last.post(&hub, OPEN), Ok(1));
+    let served = serve_unseen(&rt, &hub, &mut desk, &mut last);
+    same(&rt, served, Served::Took(2));
     let (_desk, mut last) = desk.meet(&hub, last);
-    assert!(rt; last.collect(&hub) == Some((1, Reply::Fd(0), 2)));
+    same(&rt, last.collect(&hub), Some((1, Reply::Fd(0), 2)));
     Ok(())
 }

@@ -1,6 +1,6 @@
 //! The table with a thread for each side.
 use super::table::{Answer, Caller, Open, Server, advance, open_table, with_hub};
-use super::{FORK, OPEN, RULES};
+use super::{FORK, OPEN, RULES, same};
 use call_table::Served;
 use lock_manager::{LkCmd, Lock, Note, Reply, Request};
 use range_core::{Kind, Memory, Whence};
@@ -96,17 +96,16 @@ fn converse(
 }
 
 /// Serves until so many requests are taken, or the turns run out, and closes.
-fn serve_all(rt: &impl Abort, server: &mut Server, requests: usize) -> Result<(), Memory> {
+fn serve_all(rt: &impl Abort, server: &mut Server, requests: usize) {
     for _ in 0..TURNS {
         if server.desk.session().journal().len() == requests {
             break;
         }
-        if server.serve(rt, &Open)? == Served::Idle {
+        if server.serve(rt, &Open) == Served::Idle {
             thread::yield_now();
         }
     }
     server.close();
-    Ok(())
 }
 
 /// Whether the journal has this answer to the process, at its place.
@@ -123,7 +122,7 @@ fn is_told(session: &Session, p: u8, answer: &Answer) -> bool {
 
 /// Looks that these are the journal's answers to the process, and that the last request was granted.
 fn look_at_answers(rt: &impl Abort, session: &Session, p: u8, answers: &[Answer]) {
-    assert!(rt; answers.len() as u64 == session.answered(p));
+    same(rt, answers.len() as u64, session.answered(p));
     assert!(rt; matches!(answers.last(), Some((_, Reply::Ok, _))));
     for answer in answers {
         assert!(rt; is_told(session, p, answer));
@@ -144,9 +143,8 @@ fn run_both<R: Threads + Wait + Abort + Sync>(
     thread::scope(thread::scope_env(), rt, |scope| {
         let one = scope.spawn(move || converse(first, script.first, to_first))?;
         let two = scope.spawn(move || converse(second, script.second, to_second))?;
-        let served = serve_all(rt, server, script.requests);
+        serve_all(rt, server, script.requests);
         let (one, two) = (one.join(rt), two.join(rt));
-        served?;
         let (one, two) = (one?, two?);
         let one = one.expect(rt, "the turns are enough for process 1");
         Ok((one, two.expect(rt, "the turns are enough for process 2")))
@@ -162,15 +160,15 @@ fn run_script<R: Threads + Wait + Abort + Sync>(
     server: &mut Server,
     script: &Script,
 ) -> Result<(), Fail> {
-    advance(rt, &mut first, &mut second, server, script.before)?;
+    advance(rt, &mut first, &mut second, server, script.before);
     let (one, two) = run_both(rt, alloc, first, second, server, script)?;
     let session = server.desk.session();
-    assert!(rt; session.journal().len() == script.requests);
+    same(rt, session.journal().len(), script.requests);
     look_at_answers(rt, session, 1, &one);
     look_at_answers(rt, session, 2, &two);
     if !script.to_first.is_empty() {
-        assert!(rt; one.as_slice() == script.to_first);
-        assert!(rt; two.as_slice() == script.to_second);
+        same(rt, one.as_slice(), script.to_first);
+        same(rt, two.as_slice(), script.to_second);
     }
     Ok(())
 }

@@ -2,10 +2,9 @@
 ghost use Rattle.call_table.specs.Desks.{IsDeskOf};
 
 use super::table::{Open, open_table};
-use super::{OPEN, RULES, again};
+use super::{OPEN, RULES, again, same};
 use call_table::{Busy, Desk, Hub, Served};
 use lock_manager::{Note, Reply, Request};
-use range_core::Memory;
 use session_core::{Entry, Session};
 use std::process::Abort;
 use std::test::Fail;
@@ -13,33 +12,33 @@ use std::test::Fail;
 const EXIT: Request = Request::Exit;
 
 /// [`Desk::serve_one`], and once more where a growth was refused.
-fn serve(rt: &impl Abort, hub: &Hub, desk: &mut Desk) -> Result<Served, Memory>
+fn serve(rt: &impl Abort, hub: &Hub, desk: &mut Desk) -> Served
     requires { IsDeskOf hub.now desk.old }
     ensures { IsDeskOf hub.now desk.new }
 {
     match desk.serve_one(hub, &Open) {
+        Ok(served) => served,
         Err(_) => again(rt, desk.serve_one(hub, &Open)),
-        first => first,
     }
 }
 
 #[test]
 fn the_worked_table_answers_so(rt: HostRuntime) -> Result<(), Fail> {
     let (hub, mut first, mut second, mut desk) = open_table(&rt, rt.alloc(), 2, 1, RULES)?;
-    assert!(rt; first.post(&hub, OPEN) == Ok(1));
-    assert!(rt; first.post(&hub, EXIT) == Err(Busy { request: EXIT }));
-    assert!(rt; second.collect(&hub).is_none());
-    assert!(rt; serve(&rt, &hub, &mut desk)? == Served::Took(1));
-    assert!(rt; serve(&rt, &hub, &mut desk)? == Served::Idle);
+    same(&rt, first.post(&hub, OPEN), Ok(1));
+    same(&rt, first.post(&hub, EXIT), Err(Busy { request: EXIT }));
+    same(&rt, second.collect(&hub), None);
+    same(&rt, serve(&rt, &hub, &mut desk), Served::Took(1));
+    same(&rt, serve(&rt, &hub, &mut desk), Served::Idle);
     let (mut desk, mut first) = desk.meet(&hub, first);
-    assert!(rt; first.collect(&hub) == Some((1, Reply::Fd(0), 1)));
-    assert!(rt; first.post(&hub, EXIT) == Ok(2));
-    assert!(rt; serve(&rt, &hub, &mut desk)? == Served::Took(2));
+    same(&rt, first.collect(&hub), Some((1, Reply::Fd(0), 1)));
+    same(&rt, first.post(&hub, EXIT), Ok(2));
+    same(&rt, serve(&rt, &hub, &mut desk), Served::Took(2));
     let (mut desk, mut first) = desk.meet(&hub, first);
-    assert!(rt; first.collect(&hub).is_none());
-    assert!(rt; first.post(&hub, EXIT) == Err(Busy { request: EXIT }));
+    same(&rt, first.collect(&hub), None);
+    same(&rt, first.post(&hub, EXIT), Err(Busy { request: EXIT }));
     desk.close(&hub);
-    assert!(rt; serve(&rt, &hub, &mut desk)? == Served::Closed);
+    same(&rt, serve(&rt, &hub, &mut desk), Served::Closed);
     assert!(rt; first.closed(&hub));
     look_at_session(&rt, &desk.into_session());
     Ok(())
@@ -61,7 +60,7 @@ fn look_at_session(rt: &impl Abort, session: &Session) {
     assert!(rt; journal.len() == 2);
     assert!(rt; took(&journal[0], 1, OPEN, &[opened]));
     assert!(rt; took(&journal[1], 2, EXIT, &[]));
-    assert!(rt; session.taken(1) == 2);
-    assert!(rt; session.answered(1) == 1);
-    assert!(rt; session.taken(2) == 0);
+    same(rt, session.taken(1), 2);
+    same(rt, session.answered(1), 1);
+    same(rt, session.taken(2), 0);
 }

@@ -1,9 +1,8 @@
 //! Byte locks that are set, waited for and removed (POSIX.1-2017 fcntl).
 use super::lines::Line::{Refused, Sent, Told};
-use super::lines::{ALL, FIRST, LAST_ON, Line, MIDST, TEN, WIDE, read};
+use super::lines::{ALL, FIRST, LAST_ON, Line, MIDST, TEN, WIDE, read_each};
 use history_core::Action::{Close, Set, Unlock, Wait};
 use history_core::Answer::{Busy, Deadlock, Done, Error, Interrupted};
-use history_core::FileHistory;
 use range_core::Mode::{Read, Write};
 use std::test::Fail;
 
@@ -169,7 +168,7 @@ const NOT_UNDONE: &[Line] = &[
 
 #[test]
 fn of_byte_locks(rt: HostRuntime) -> Result<(), Fail> {
-    for lines in [
+    let histories = [
         ONE_AFTER_ANOTHER,
         JUST_THE_BYTES,
         EITHER_FIRST,
@@ -178,9 +177,6 @@ fn of_byte_locks(rt: HostRuntime) -> Result<(), Fail> {
         ENDED_WAITS,
         FAILED,
         NOT_UNDONE,
-    ] {
-        let mut file = FileHistory::new(rt.alloc(), false)?;
-        read(&rt, &mut file, lines)?;
-    }
-    Ok(())
+    ];
+    read_each(&rt, rt.alloc(), false, &histories)
 }

@@ -1,9 +1,8 @@
 //! Owners that die (POSIX.1-2017 fcntl, the process terminates; flock(2), all descriptors have been closed).
 use super::lines::Line::{Refused, Sent, Told};
-use super::lines::{ALL, FIRST, Line, TEN, read};
+use super::lines::{ALL, FIRST, Line, TEN, read_each};
 use history_core::Action::{Flock, Get, Gone, Set, Unlock, Wait};
 use history_core::Answer::{Busy, Done, Free, Held, Interrupted};
-use history_core::FileHistory;
 use range_core::Mode::{Read, Write};
 use std::test::Fail;
 
@@ -80,9 +79,6 @@ const ENDS_NO_OTHER: &[Line] = &[
 
 #[test]
 fn of_deaths(rt: HostRuntime) -> Result<(), Fail> {
-    for lines in [TAKES_ALL, ENDS_REQUESTS, SENT_BEHIND, ENDS_NO_OTHER] {
-        let mut file = FileHistory::new(rt.alloc(), false)?;
-        read(&rt, &mut file, lines)?;
-    }
-    Ok(())
+    let histories = [TAKES_ALL, ENDS_REQUESTS, SENT_BEHIND, ENDS_NO_OTHER];
+    read_each(&rt, rt.alloc(), false, &histories)
 }

@@ -1,10 +1,11 @@
 //! Whether a history may end with its waits still waiting.
 use super::lines::Line::{Sent, Told};
-use super::lines::{ENOUGH, FIRST, Line, TEN, read};
+use super::lines::{ENOUGH, FIRST, Line, TEN, read, same};
 use history_core::Action::{Flock, FlockUnlock, FlockWait, Gone, Set, Unlock, Wait};
 use history_core::Answer::{Busy, Done};
 use history_core::FileHistory;
 use range_core::Mode::{Read, Write};
+use std::process::Abort;
 use std::test::Fail;
 
 /// A wait that is blocked.
@@ -71,25 +72,36 @@ const NO_WAIT: &[Line] = &[
     Sent(2, 2, Set(Write, FIRST)),
 ];
 
+/// Histories, and whether each may end so.
+const ENDINGS: [(&[Line], bool); 9] = [
+    (BLOCKED, true),
+    (NOT_WOKEN, false),
+    (ONE_IS_TO_BE_GRANTED, false),
+    (MAYBE_BLOCKED, true),
+    (MAYBE_NOT_WOKEN, true),
+    (FLOCK_NOT_WOKEN, false),
+    (DEAD, true),
+    (NO_WAIT, true),
+    (&[], true),
+];
+
+/// The file, which has no line yet, may end behind the lines, or may not.
+fn ends_so(
+    rt: &impl Abort,
+    file: &mut FileHistory,
+    lines: &[Line],
+    may_end: bool,
+) -> Result<(), Fail> {
+    read(rt, file, lines)?;
+    same(rt, file.may_end(ENOUGH)?, may_end);
+    Ok(())
+}
+
 #[test]
 fn of_endings(rt: HostRuntime) -> Result<(), Fail> {
-    for (place, (lines, may_end)) in [
-        (BLOCKED, true),
-        (NOT_WOKEN, false),
-        (ONE_IS_TO_BE_GRANTED, false),
-        (MAYBE_BLOCKED, true),
-        (MAYBE_NOT_WOKEN, true),
-        (FLOCK_NOT_WOKEN, false),
-        (DEAD, true),
-        (NO_WAIT, true),
-        (&[], true),
-    ]
-    .into_iter()
-    .enumerate()
-    {
-        let mut file = FileHistory::new(rt.alloc(), false)?;
-        read(&rt, &mut file, lines)?;
-        assert_eq!(rt; file.may_end(ENOUGH)?, may_end, "history {place}");
+    for (lines, may_end) in ENDINGS {
+        let file = &mut FileHistory::new(rt.alloc(), false)?;
+        ends_so(&rt, file, lines, may_end)?;
     }
     Ok(())
 }

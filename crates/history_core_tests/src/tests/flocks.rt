@@ -1,9 +1,8 @@
 //! Locks of the whole file (flock(2)).
 use super::lines::Line::{Refused, Sent, Told};
-use super::lines::{ALL, Line, read};
+use super::lines::{ALL, Line, read_each};
 use history_core::Action::{Close, Flock, FlockUnlock, FlockWait, Get, Set};
 use history_core::Answer::{Busy, Deadlock, Done, Error, Free, Interrupted};
-use history_core::FileHistory;
 use range_core::Mode::{Read, Write};
 use std::test::Fail;
 
@@ -109,9 +108,6 @@ const IN_BETWEEN: &[Line] = &[
 
 #[test]
 fn of_flock_locks(rt: HostRuntime) -> Result<(), Fail> {
-    for lines in [SHARED, LOST_UPGRADE, KEPT_UPGRADE, IN_BETWEEN] {
-        let mut file = FileHistory::new(rt.alloc(), false)?;
-        read(&rt, &mut file, lines)?;
-    }
-    Ok(())
+    let histories = [SHARED, LOST_UPGRADE, KEPT_UPGRADE, IN_BETWEEN];
+    read_each(&rt, rt.alloc(), false, &histories)
 }

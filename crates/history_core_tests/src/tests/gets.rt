@@ -1,9 +1,8 @@
 //! What a get tells (POSIX.1-2017 fcntl, `F_GETLK`).
 use super::lines::Line::{Refused, Sent, Told};
-use super::lines::{ALL, FIRST, Line, MIDST, TEN, WIDE, read};
+use super::lines::{ALL, FIRST, Line, MIDST, TEN, WIDE, read_each};
 use history_core::Action::{Get, Set, Unlock};
 use history_core::Answer::{Busy, Done, Free, Held};
-use history_core::FileHistory;
 use range_core::Mode::{Read, Write};
 use range_core::Span;
 use std::test::Fail;
@@ -100,14 +99,6 @@ const ONE_MOMENT: &[Line] = &[
 
 #[test]
 fn of_gets(rt: HostRuntime) -> Result<(), Fail> {
-    for (lines, runs) in [
-        (PARTS, false),
-        (OF_TWO, false),
-        (LARGEST, true),
-        (ONE_MOMENT, false),
-    ] {
-        let mut file = FileHistory::new(rt.alloc(), runs)?;
-        read(&rt, &mut file, lines)?;
-    }
-    Ok(())
+    read_each(&rt, rt.alloc(), false, &[PARTS, OF_TWO, ONE_MOMENT])?;
+    read_each(&rt, rt.alloc(), true, &[LARGEST])
 }

@@ -1,11 +1,13 @@
 //! Lines of a file's history, each with the verdict that the standards give.
 use history_core::{Action, Answer, FileHistory, Request};
 use range_core::Span;
+use std::alloc::Global;
+use std::fmt::Debug;
 use std::process::Abort;
 use std::test::Fail;
 
 /// A line of a file's history.
-#[derive(Clone, Copy, Debug)]
+#[derive(Clone, Copy)]
 pub enum Line {
     /// The request of this ID and owner was sent.
     Sent(u64, u64, Action),
@@ -45,18 +47,35 @@ pub const ENOUGH: usize = 1000;
 /// Reads these lines, each of which has its verdict, as those of a file that has no line yet.
 pub fn read(rt: &impl Abort, file: &mut FileHistory, lines: &[Line]) -> Result<(), Fail> {
     for (place, line) in lines.iter().enumerate() {
-        match *line {
+        let (id, answer, is_possible) = match *line {
             Line::Sent(id, owner, action) => {
                 assert!(rt; !file.has_open(id), "line {place}");
                 file.send(Request { id, owner, action }, ENOUGH)?;
+                continue;
             }
-            Line::Told(id, answer) => {
-                assert!(rt; file.answer(id, answer, ENOUGH)?, "line {place}");
-            }
-            Line::Refused(id, answer) => {
-                assert!(rt; !file.answer(id, answer, ENOUGH)?, "line {place}");
-            }
-        }
+            Line::Told(id, answer) => (id, answer, true),
+            Line::Refused(id, answer) => (id, answer, false),
+        };
+        let told = file.answer(id, answer, ENOUGH)?;
+        same(rt, (place, told), (place, is_possible));
     }
     Ok(())
+}
+
+/// Reads each of these histories as that of a file of its own; `runs` says whether a get tells largest ranges alone.
+pub fn read_each(
+    rt: &impl Abort,
+    alloc: Global,
+    runs: bool,
+    histories: &[&[Line]],
+) -> Result<(), Fail> {
+    for lines in histories {
+        read(rt, &mut FileHistory::new(alloc, runs)?, lines)?;
+    }
+    Ok(())
+}
+
+/// Looks that the two are the same.
+pub fn same<T: PartialEq + Debug + Drop>(rt: &impl Abort, left: T, right: T) {
+    assert_eq!(rt; left, right);
 }

@@ -1,6 +1,6 @@
 //! Orders of effects, and the locks that they leave: of each of these histories no other order is possible.
 use super::lines::Line::{Refused, Sent, Told};
-use super::lines::{ENOUGH, FIRST, Line, MIDST, TEN, WIDE, read};
+use super::lines::{ENOUGH, FIRST, Line, MIDST, TEN, WIDE, read, same};
 use history_core::Action::{Close, Flock, FlockWait, Get, Gone, Set, Unlock, Wait};
 use history_core::Answer::{Busy, Done, Free, Held, Interrupted};
 use history_core::{Action, ByteLock, Deed, FileHistory, FlockLock, Happening, HeldLocks, Request};
@@ -109,6 +109,22 @@ fn effect(id: u64, owner: u64, action: Action) -> Happening {
     }
 }
 
+/// Looks that just these happened, in this order, of which each was possible behind what is held then.
+fn apply_each(
+    rt: &impl Abort,
+    held: &mut HeldLocks,
+    order: &[Happening],
+    wanted: &[Happened],
+) -> Result<(), Fail> {
+    same(rt, order.len(), wanted.len());
+    for (happening, wanted) in order.iter().zip(wanted) {
+        let happened = (happening.request.id, happening.deed, happening.behind);
+        same(rt, happened, *wanted);
+        assert!(rt; held.apply(*happening)?);
+    }
+    Ok(())
+}
+
 /// Looks that the order of the lines is this one, and that it leaves these byte locks and flock locks.
 fn is_order(
     rt: &(impl Abort + AllocGlobal),
@@ -119,36 +135,81 @@ fn is_order(
 ) -> Result<(), Fail> {
     let mut file = FileHistory::keeping_order(rt.alloc(), false)?;
     read(rt, &mut file, lines)?;
-    let told = file.order()?;
-    assert!(rt; told.is_some());
-    if let Some(order) = told {
-        assert_eq!(rt; order.len(), wanted.len());
-        let mut held = HeldLocks::new(rt.alloc());
-        for (happening, wanted) in order.iter().zip(wanted) {
-            assert_eq!(rt; happening.request.id, wanted.0);
-            assert_eq!(rt; happening.deed, wanted.1);
-            assert_eq!(rt; happening.behind, wanted.2);
-            assert!(rt; held.apply(*happening)?);
-        }
-        assert_eq!(rt; held.byte_locks(), bytes);
-        assert_eq!(rt; held.flock_locks(rt.alloc())?.as_slice(), flocks);
-    }
+    let order = file.order()?.expect(rt, "an order is kept");
+    let mut held = HeldLocks::new(rt.alloc());
+    apply_each(rt, &mut held, &order, wanted)?;
+    same(rt, held.byte_locks(), bytes);
+    same(rt, held.flock_locks(rt.alloc())?.as_slice(), flocks);
     Ok(())
 }
 
+/// Lines, what happened, and the byte locks and flock locks that this leaves.
+type Order = (
+    &'static [Line],
+    &'static [Happened],
+    &'static [ByteLock],
+    &'static [FlockLock],
+);
+
+const ORDERS: &[Order] = &[
+    (&[], &[], &[], &[]),
+    (IN_TURN, ONE_BY_ONE, &[], &[]),
+    (
+        GRANTED,
+        UNLOCKED_FIRST,
+        &[ByteLock {
+            owner: 2,
+            mode: Write,
+            span: FIRST,
+        }],
+        &[],
+    ),
+    (
+        UNANSWERED,
+        HAPPENED,
+        &[ByteLock {
+            owner: 1,
+            mode: Write,
+            span: TEN,
+        }],
+        &[],
+    ),
+    (
+        SEEN,
+        SET_FIRST,
+        &[ByteLock {
+            owner: 2,
+            mode: Read,
+            span: MIDST,
+        }],
+        &[],
+    ),
+    (
+        CONVERTED,
+        LET_GO,
+        &[],
+        &[FlockLock {
+            owner: 2,
+            mode: Write,
+        }],
+    ),
+    (
+        DIED,
+        DEAD_FIRST,
+        &[ByteLock {
+            owner: 2,
+            mode: Write,
+            span: WIDE,
+        }],
+        &[],
+    ),
+];
+
 #[test]
 fn of_orders(rt: HostRuntime) -> Result<(), Fail> {
-    is_order(&rt, &[], &[], &[], &[])?;
-    is_order(&rt, IN_TURN, ONE_BY_ONE, &[], &[])?;
-    is_order(&rt, GRANTED, UNLOCKED_FIRST, &[lock(2, Write, 0, 0)], &[])?;
-    is_order(&rt, UNANSWERED, HAPPENED, &[lock(1, Write, 0, 9)], &[])?;
-    is_order(&rt, SEEN, SET_FIRST, &[lock(2, Read, 4, 5)], &[])?;
-    let exclusive = FlockLock {
-        owner: 2,
-        mode: Write,
-    };
-    is_order(&rt, CONVERTED, LET_GO, &[], &[exclusive])?;
-    is_order(&rt, DIED, DEAD_FIRST, &[lock(2, Write, 3, 5)], &[])?;
+    for (lines, wanted, bytes, flocks) in ORDERS {
+        is_order(&rt, lines, wanted, bytes, flocks)?;
+    }
     Ok(())
 }
 
@@ -161,40 +222,86 @@ fn of_no_order(rt: HostRuntime) -> Result<(), Fail> {
     Ok(())
 }
 
-/// The locks that happenings leave, by owner and first byte, in largest ranges; what isn't possible changes nothing.
-#[test]
-fn of_locks(rt: HostRuntime) -> Result<(), Fail> {
-    let mut held = HeldLocks::new(rt.alloc());
+/// Effects in turn, by ID and owner, each with whether it is possible; one that isn't changes nothing.
+fn take_effect(rt: &impl Abort, held: &mut HeldLocks) -> Result<(), Fail> {
     let span = |first: u64, last: u64| Span { first, last };
-    assert!(rt; held.apply(effect(1, 2, Set(Read, span(5, 9))))?);
-    assert!(rt; held.apply(effect(2, 1, Wait(Write, span(0, 3))))?);
-    assert!(rt; held.apply(effect(3, 1, Set(Write, span(4, 4))))?);
-    assert!(rt; held.apply(effect(4, 1, Set(Read, span(2, 2))))?);
-    assert!(rt; held.apply(effect(5, 3, Set(Write, span(9, 9))))?);
-    assert!(rt; held.apply(effect(6, 3, Flock(Read)))?);
-    assert!(rt; held.apply(effect(7, 2, Flock(Read)))?);
-    assert!(rt; !held.apply(effect(8, 4, FlockWait(Write)))?);
-    assert!(rt; !held.apply(effect(9, 4, Wait(Read, span(0, 0))))?);
+    for (id, owner, action, is_possible) in [
+        (1, 2, Set(Read, span(5, 9)), true),
+        (2, 1, Wait(Write, span(0, 3)), true),
+        (3, 1, Set(Write, span(4, 4)), true),
+        (4, 1, Set(Read, span(2, 2)), true),
+        (5, 3, Set(Write, span(9, 9)), true),
+        (6, 3, Flock(Read), true),
+        (7, 2, Flock(Read), true),
+        (8, 4, FlockWait(Write), false),
+        (9, 4, Wait(Read, span(0, 0)), false),
+    ] {
+        let is_done = held.apply(effect(id, owner, action))?;
+        assert!(rt; is_done == is_possible, "effect {id}");
+    }
+    Ok(())
+}
+
+/// An owner that waits for a flock lets its old lock go, where it has one.
+fn let_go(rt: &impl Abort, held: &mut HeldLocks) -> Result<(), Fail> {
     let mut loss = effect(10, 4, FlockWait(Write));
     loss.deed = Deed::LetGo;
     assert!(rt; !held.apply(loss)?);
     loss.request.owner = 3;
     assert!(rt; held.apply(loss)?);
+    Ok(())
+}
+
+/// The locks that happenings leave, by owner and first byte, in largest ranges; what isn't possible changes nothing.
+#[test]
+fn of_locks(rt: HostRuntime) -> Result<(), Fail> {
+    let mut held = HeldLocks::new(rt.alloc());
+    take_effect(&rt, &mut held)?;
+    let_go(&rt, &mut held)?;
     let bytes = [
         lock(1, Write, 0, 1),
         lock(1, Read, 2, 2),
         lock(1, Write, 3, 4),
         lock(2, Read, 5, 9),
     ];
-    assert_eq!(rt; held.byte_locks(), bytes.as_slice());
-    let shared = FlockLock {
+    same(&rt, held.byte_locks(), bytes.as_slice());
+    let shared = [FlockLock {
         owner: 2,
         mode: Read,
-    };
-    assert_eq!(rt;
-        held.flock_locks(rt.alloc())?.as_slice(),
-        [shared].as_slice()
-    );
+    }];
+    let flocks = held.flock_locks(rt.alloc())?;
+    same(&rt, flocks.as_slice(), shared.as_slice());
+    Ok(())
+}
+
+/// Owners in turn set a lock and remove it, each request by the same ID.
+fn set_and_unlock(rt: &impl Abort, file: &mut FileHistory, requests: u64) -> Result<(), Fail> {
+    for number in 0..requests {
+        let action = if number % 2 == 0 {
+            Set(Write, TEN)
+        } else {
+            Unlock(TEN)
+        };
+        let request = Request {
+            id: 7,
+            owner: number / 2,
+            action,
+        };
+        assert!(rt; !file.has_open(7));
+        file.send(request, ENOUGH)?;
+        assert!(rt; file.answer(7, Done, ENOUGH)?);
+    }
+    Ok(())
+}
+
+/// The order is that of the requests, and each happening comes behind the line of its own.
+fn are_in_turn(rt: &impl Abort, held: &mut HeldLocks, order: &[Happening]) -> Result<(), Fail> {
+    for (number, happening) in order.iter().enumerate() {
+        let (owner, behind) = (happening.request.owner, happening.behind);
+        let number = number as u64;
+        same(rt, (owner, behind / 2, behind % 2), (number / 2, number, 1));
+        assert!(rt; held.apply(*happening)?);
+    }
     Ok(())
 }
 
@@ -202,33 +309,11 @@ fn of_locks(rt: HostRuntime) -> Result<(), Fail> {
 #[test]
 fn of_long_orders(rt: HostRuntime) -> Result<(), Fail> {
     let mut file = FileHistory::keeping_order(rt.alloc(), false)?;
-    for id in 0..30_000u64 {
-        let action = if id % 2 == 0 {
-            Set(Write, TEN)
-        } else {
-            Unlock(TEN)
-        };
-        let request = Request {
-            id: 7,
-            owner: id / 2,
-            action,
-        };
-        assert!(rt; !file.has_open(7));
-        file.send(request, ENOUGH)?;
-        assert!(rt; file.answer(7, Done, ENOUGH)?);
-    }
-    let told = file.order()?;
-    assert!(rt; told.is_some());
-    if let Some(order) = told {
-        assert_eq!(rt; order.len(), 30_000);
-        let mut held = HeldLocks::new(rt.alloc());
-        for (happening, id) in order.iter().zip(0..30_000u64) {
-            assert_eq!(rt; happening.request.owner, id / 2);
-            assert_eq!(rt; happening.behind / 2, id);
-            assert_eq!(rt; happening.behind % 2, 1);
-            assert!(rt; held.apply(*happening)?);
-        }
-        assert_eq!(rt; held.byte_locks().len(), 0);
-    }
+    set_and_unlock(&rt, &mut file, 30_000)?;
+    let order = file.order()?.expect(&rt, "an order is kept");
+    same(&rt, order.len(), 30_000);
+    let mut held = HeldLocks::new(rt.alloc());
+    are_in_turn(&rt, &mut held, &order)?;
+    same(&rt, held.byte_locks().len(), 0);
     Ok(())
 }

@@ -6,6 +6,7 @@ use lock_server::{
     WaitFault,
 };
 use range_core::OFFMAX;
+use std::fmt::Debug;
 use std::process::Abort;
 
 /// The first and the last byte of a range.
@@ -176,4 +177,9 @@ pub(super) fn tells(rt: &impl Abort, server: &mut LockServer, rows: &[Row]) -> R
         assert!(rt; told == *wanted, "file {file}");
     }
     Ok(())
+}
+
+/// The two are the same.
+pub(super) fn same<T: PartialEq + Debug + Drop>(rt: &impl Abort, left: T, right: T) {
+    assert_eq!(rt; left, right);
 }

@@ -161,17 +161,22 @@ fn notes_go(rt: &impl Abort, server: &mut LockServer) -> Result<(), Memory> {
     )
 }
 
+/// Two clients come, and one of them goes.
+fn two_clients(rt: &impl Abort, server: &mut LockServer) -> Result<(), Memory> {
+    locks_of_two(rt, server)?;
+    waits_of_two(rt, server)?;
+    count_two(rt, server)?;
+    one_goes(rt, server)
+}
+
 #[test]
 fn clients_and_files_go(rt: HostRuntime) -> Result<(), Fail> {
     for policy in [Policy::Held, Policy::Queue] {
-        let server = &mut LockServer::new(rt.alloc(), stepwise(policy));
-        locks_of_two(&rt, server)?;
-        waits_of_two(&rt, server)?;
-        count_two(&rt, server)?;
-        one_goes(&rt, server)?;
-        grants_stay(&rt, &mut LockServer::new(rt.alloc(), stepwise(policy)))?;
-        file_goes(&rt, &mut LockServer::new(rt.alloc(), stepwise(policy)))?;
-        notes_go(&rt, &mut LockServer::new(rt.alloc(), stepwise(policy)))?;
+        let rules = stepwise(policy);
+        two_clients(&rt, &mut LockServer::new(rt.alloc(), rules))?;
+        grants_stay(&rt, &mut LockServer::new(rt.alloc(), rules))?;
+        file_goes(&rt, &mut LockServer::new(rt.alloc(), rules))?;
+        notes_go(&rt, &mut LockServer::new(rt.alloc(), rules))?;
     }
     Ok(())
 }

@@ -1,5 +1,5 @@
 //! The state of a server as bytes: what these are is derived by hand from the grammar in `lock_server/specs/Bytes.antt`.
-use super::calls::{Call, Row, Told, atomic, stepwise, tells};
+use super::calls::{Call, Row, Told, atomic, same, stepwise, tells};
 use lock_server::Mode::{Read, Write};
 use lock_server::{LockServer, Memory, Policy};
 use range_core::OFFMAX;
@@ -88,39 +88,49 @@ pub(super) fn exported(
 ) -> Result<Vec<u8>, Memory> {
     let size = server.export_size();
     let mut out = Vec::from_elem(alloc, 0u8, size)?;
-    assert!(rt; server.export(&mut out) == size);
+    same(rt, server.export(&mut out), size);
     Ok(out)
+}
+
+/// The export of the server is these words.
+fn exports(
+    rt: &impl Abort,
+    alloc: Global,
+    server: &LockServer,
+    words: &[u64],
+) -> Result<(), Memory> {
+    let (told, wanted) = (exported(rt, alloc, server)?, bytes_of(alloc, words)?);
+    same(rt, told.as_slice(), wanted.as_slice());
+    Ok(())
+}
+
+/// A server that was told these rows exports the words of the situation.
+fn exports_situation(rt: &impl Abort, alloc: Global, rows: &[Row]) -> Result<(), Memory> {
+    let mut server = LockServer::new(alloc, stepwise(Policy::Held));
+    tells(rt, &mut server, rows)?;
+    exports(rt, alloc, &server, &WORDS)
 }
 
 #[test]
 fn exports_all_that_there_is(rt: HostRuntime) -> Result<(), Fail> {
-    let mut server = LockServer::new(rt.alloc(), stepwise(Policy::Held));
-    tells(&rt, &mut server, &SITUATION)?;
-    let wanted = bytes_of(rt.alloc(), &WORDS)?;
-    assert!(rt; exported(&rt, rt.alloc(), &server)?.as_slice() == wanted.as_slice());
-    Ok(())
+    Ok(exports_situation(&rt, rt.alloc(), &SITUATION)?)
 }
 
 #[test]
 fn exports_whatever_the_history_was(rt: HostRuntime) -> Result<(), Fail> {
-    let mut server = LockServer::new(rt.alloc(), stepwise(Policy::Held));
-    tells(&rt, &mut server, &OTHER_WAY)?;
-    let wanted = bytes_of(rt.alloc(), &WORDS)?;
-    assert!(rt; exported(&rt, rt.alloc(), &server)?.as_slice() == wanted.as_slice());
-    Ok(())
+    Ok(exports_situation(&rt, rt.alloc(), &OTHER_WAY)?)
 }
 
 #[test]
 fn exports_an_empty_server(rt: HostRuntime) -> Result<(), Fail> {
-    let held = LockServer::new(rt.alloc(), stepwise(Policy::Held));
-    let wanted = bytes_of(rt.alloc(), &[1, 0, 0, 0, 0, 0, 0])?;
-    assert!(rt; exported(&rt, rt.alloc(), &held)?.as_slice() == wanted.as_slice());
-    let queue = LockServer::new(rt.alloc(), stepwise(Policy::Queue));
-    let wanted = bytes_of(rt.alloc(), &[1, 1, 0, 0, 0, 0, 0])?;
-    assert!(rt; exported(&rt, rt.alloc(), &queue)?.as_slice() == wanted.as_slice());
-    let atomic_queue = LockServer::new(rt.alloc(), atomic(Policy::Queue));
-    let wanted = bytes_of(rt.alloc(), &[1, 1, 1, 0, 0, 0, 0])?;
-    assert!(rt; exported(&rt, rt.alloc(), &atomic_queue)?.as_slice() == wanted.as_slice());
+    for (rules, words) in [
+        (stepwise(Policy::Held), [1, 0, 0, 0, 0, 0, 0]),
+        (stepwise(Policy::Queue), [1, 1, 0, 0, 0, 0, 0]),
+        (atomic(Policy::Queue), [1, 1, 1, 0, 0, 0, 0]),
+    ] {
+        let server = LockServer::new(rt.alloc(), rules);
+        exports(&rt, rt.alloc(), &server, &words)?;
+    }
     Ok(())
 }
 
@@ -129,11 +139,11 @@ fn exports_an_empty_server(rt: HostRuntime) -> Result<(), Fail> {
 fn exports_into_the_room_that_there_is(rt: HostRuntime) {
     let server = LockServer::new(rt.alloc(), stepwise(Policy::Held));
     let mut out = [7u8; 60];
-    assert!(rt; server.export(&mut out[..55]) == 56);
-    assert!(rt; out == [7u8; 60]);
-    assert!(rt; server.export(&mut out) == 56);
-    assert!(rt; out[0] == 1 && out[1] == 0 && out[55] == 0);
-    assert!(rt; out[56] == 7 && out[59] == 7);
+    same(&rt, server.export(&mut out[..55]), 56);
+    same(&rt, out, [7u8; 60]);
+    same(&rt, server.export(&mut out), 56);
+    same(&rt, [out[0], out[1], out[55]], [1, 0, 0]);
+    same(&rt, [out[56], out[59]], [7, 7]);
 }
 
 /// Two thousand files of two locks each, with a wait behind each, and as many notes; `from` and `step` say in which order they come.
@@ -169,8 +179,9 @@ fn exports_thousands_in_any_order(rt: HostRuntime) -> Result<(), Fail> {
     let mut falling = LockServer::new(rt.alloc(), stepwise(Policy::Queue));
     fill(&rt, &mut falling, 1999, 1999)?;
     let one = exported(&rt, rt.alloc(), &rising)?;
-    assert!(rt; one.len() == 8 * (7 + 2000 * 22));
-    assert!(rt; exported(&rt, rt.alloc(), &falling)?.as_slice() == one.as_slice());
+    same(&rt, one.len(), 8 * (7 + 2000 * 22));
+    let other = exported(&rt, rt.alloc(), &falling)?;
+    same(&rt, other.as_slice(), one.as_slice());
     falling.cancel(77);
     assert!(rt; exported(&rt, rt.alloc(), &falling)?.as_slice() != one.as_slice());
     Ok(())

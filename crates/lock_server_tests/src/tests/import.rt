@@ -1,5 +1,5 @@
 //! Servers from bytes: what is refused, and where, is derived by hand from the grammar in `lock_server/specs/Bytes.antt`.
-use super::calls::{Call, Row, Told, atomic, stepwise, tells};
+use super::calls::{Call, Row, Told, atomic, same, stepwise, tells};
 use super::export::{SITUATION, WORDS, bytes_of, exported, fill};
 use super::model::{FILES, Model, OWNERS};
 use super::rule::Rule;
@@ -182,18 +182,24 @@ const CASES: [Case<'static>; 38] = [
     ),
 ];
 
+/// What is wrong with the bytes, and where; nothing, where a server is made of them.
+fn fault_of(alloc: Global, bytes: &[u8]) -> Result<Option<Fault>, Memory> {
+    match LockServer::import(alloc, bytes) {
+        Ok(_) => Ok(None),
+        Err(ImportFault::Invalid(fault)) => Ok(Some(fault)),
+        Err(ImportFault::Memory(memory)) => Err(memory),
+    }
+}
+
 #[test]
 fn names_what_is_wrong(rt: HostRuntime) -> Result<(), Fail> {
     for (flaw, word, words) in &CASES {
         let bytes = bytes_of(rt.alloc(), words)?;
-        let wanted = ImportFault::Invalid(Fault {
+        let wanted = Fault {
             flaw: *flaw,
             offset: word.saturating_mul(8),
-        });
-        match LockServer::import(rt.alloc(), &bytes) {
-            Ok(_) => assert!(rt; false),
-            Err(fault) => assert_eq!(rt; fault, wanted),
-        }
+        };
+        same(&rt, fault_of(rt.alloc(), &bytes)?, Some(wanted));
     }
     Ok(())
 }
@@ -201,7 +207,7 @@ fn names_what_is_wrong(rt: HostRuntime) -> Result<(), Fail> {
 /// The server that the bytes tell of, whose export they are.
 fn imported(rt: &impl Abort, alloc: Global, bytes: &[u8]) -> Result<LockServer, Fail> {
     let server = LockServer::import(alloc, bytes)?;
-    assert!(rt; exported(rt, alloc, &server)?.as_slice() == bytes);
+    same(rt, exported(rt, alloc, &server)?.as_slice(), bytes);
     Ok(server)
 }
 
@@ -219,6 +225,18 @@ const AFTERWARDS: [Row; 9] = [
     (7, Call::Grant, Told::Nothing),
 ];
 
+/// Both servers export the same.
+fn export_alike(
+    rt: &impl Abort,
+    alloc: Global,
+    one: &LockServer,
+    other: &LockServer,
+) -> Result<(), Memory> {
+    let (one, other) = (exported(rt, alloc, one)?, exported(rt, alloc, other)?);
+    same(rt, one.as_slice(), other.as_slice());
+    Ok(())
+}
+
 #[test]
 fn imports_all_that_there_is(rt: HostRuntime) -> Result<(), Fail> {
     let bytes = bytes_of(rt.alloc(), &WORDS)?;
@@ -227,9 +245,7 @@ fn imports_all_that_there_is(rt: HostRuntime) -> Result<(), Fail> {
     let mut other = LockServer::new(rt.alloc(), stepwise(Policy::Held));
     tells(&rt, &mut other, &SITUATION)?;
     tells(&rt, &mut other, &AFTERWARDS)?;
-    let wanted = exported(&rt, rt.alloc(), &other)?;
-    assert!(rt; exported(&rt, rt.alloc(), &server)?.as_slice() == wanted.as_slice());
-    Ok(())
+    Ok(export_alike(&rt, rt.alloc(), &server, &other)?)
 }
 
 /// Bytes that end too early tell that where they end; the last ones may be part of a word.
@@ -237,13 +253,10 @@ fn imports_all_that_there_is(rt: HostRuntime) -> Result<(), Fail> {
 fn refuses_each_beginning(rt: HostRuntime) -> Result<(), Fail> {
     let bytes = bytes_of(rt.alloc(), &WORDS)?;
     for length in 0..bytes.len() {
-        match LockServer::import(rt.alloc(), &bytes[..length]) {
-            Err(ImportFault::Invalid(fault)) => {
-                assert_eq!(rt; fault.flaw, Flaw::Form);
-                assert!(rt; fault.offset <= length);
-            }
-            _ => assert!(rt; false, "the first {length} bytes"),
-        }
+        let fault = fault_of(rt.alloc(), &bytes[..length])?;
+        let flaw = fault.map(|fault| fault.flaw);
+        same(&rt, (length, flaw), (length, Some(Flaw::Form)));
+        assert!(rt; fault.is_some_and(|fault| fault.offset <= length));
     }
     Ok(())
 }
@@ -252,7 +265,7 @@ fn refuses_each_beginning(rt: HostRuntime) -> Result<(), Fail> {
 fn is_export(rt: &impl Abort, alloc: Global, bytes: &[u8]) -> Result<bool, Memory> {
     match LockServer::import(alloc, bytes) {
         Ok(server) => {
-            assert!(rt; exported(rt, alloc, &server)?.as_slice() == bytes);
+            same(rt, exported(rt, alloc, &server)?.as_slice(), bytes);
             Ok(true)
         }
         Err(ImportFault::Invalid(_)) => Ok(false),
@@ -345,10 +358,8 @@ fn finds_a_cycle_of_thousands(rt: HostRuntime) -> Result<(), Fail> {
     let row = bytes_of(rt.alloc(), &ring(rt.alloc(), 3000, false)?)?;
     imported(&rt, rt.alloc(), &row)?;
     let ring = bytes_of(rt.alloc(), &ring(rt.alloc(), 3000, true)?)?;
-    match LockServer::import(rt.alloc(), &ring) {
-        Err(ImportFault::Invalid(fault)) => assert_eq!(rt; fault.flaw, Flaw::Cycle),
-        _ => assert!(rt; false),
-    }
+    let fault = fault_of(rt.alloc(), &ring)?;
+    same(&rt, fault.map(|fault| fault.flaw), Some(Flaw::Cycle));
     Ok(())
 }
 
@@ -361,9 +372,7 @@ fn imports_thousands(rt: HostRuntime) -> Result<(), Fail> {
     let mut other = imported(&rt, rt.alloc(), &bytes)?;
     server.forget_owners(0, 900);
     other.forget_owners(0, 900);
-    let wanted = exported(&rt, rt.alloc(), &server)?;
-    assert!(rt; exported(&rt, rt.alloc(), &other)?.as_slice() == wanted.as_slice());
-    Ok(())
+    Ok(export_alike(&rt, rt.alloc(), &server, &other)?)
 }
 
 /// A sequence of 80 calls; after every fourth the server is one that was made of its bytes.

@@ -1,5 +1,5 @@
 //! What a server lists: by hand, beside the model, and of many.
-use super::calls::{Call, Row, Told, stepwise, tells};
+use super::calls::{Call, Row, Told, same, stepwise, tells};
 use super::model::{BYTES, FILES, Model, OWNERS};
 use lock_server::Mode::{Read, Write};
 use lock_server::{FlockLock, Lock, LockServer, Memory, Mode, Obstacle, OwnerWait, Policy, Span};
@@ -48,20 +48,32 @@ fn owner_wait(owner: u64, file: u64, ticket: u64) -> OwnerWait {
 
 /// The files and the byte locks, from some places on.
 fn lists_files_and_locks(rt: &impl Abort, server: &LockServer) {
-    assert!(rt; server.next_file(0) == Some(F));
-    assert!(rt; server.next_file(F) == Some(F));
-    assert!(rt; server.next_file(F + 1) == Some(G));
-    assert!(rt; server.next_file(G) == Some(G));
-    assert!(rt; server.next_lock(F, 0, 0) == Some(lock(1, Write, 0, 3)));
-    assert!(rt; server.next_lock(F, 1, 0) == Some(lock(1, Write, 0, 3)));
-    assert!(rt; server.next_lock(F, 1, 1) == Some(lock(1, Write, 6, 9)));
-    assert!(rt; server.next_lock(F, 1, 6) == Some(lock(1, Write, 6, 9)));
-    assert!(rt; server.next_lock(F, 1, 7) == Some(lock(3, Read, 20, OFFMAX)));
-    assert!(rt; server.next_lock(F, 2, 0) == Some(lock(3, Read, 20, OFFMAX)));
-    assert!(rt; server.next_lock(F, 3, 20) == Some(lock(3, Read, 20, OFFMAX)));
-    assert!(rt; server.next_lock(F, 3, 21) == None);
-    assert!(rt; server.next_lock(F, LAST, 0) == None);
-    assert!(rt; server.next_lock(G, 0, 0) == None);
+    same(rt, server.next_file(0), Some(F));
+    same(rt, server.next_file(F), Some(F));
+    same(rt, server.next_file(F + 1), Some(G));
+    same(rt, server.next_file(G), Some(G));
+    same(rt, server.next_lock(F, 0, 0), Some(lock(1, Write, 0, 3)));
+    same(rt, server.next_lock(F, 1, 0), Some(lock(1, Write, 0, 3)));
+    same(rt, server.next_lock(F, 1, 1), Some(lock(1, Write, 6, 9)));
+    same(rt, server.next_lock(F, 1, 6), Some(lock(1, Write, 6, 9)));
+    same(
+        rt,
+        server.next_lock(F, 1, 7),
+        Some(lock(3, Read, 20, OFFMAX)),
+    );
+    same(
+        rt,
+        server.next_lock(F, 2, 0),
+        Some(lock(3, Read, 20, OFFMAX)),
+    );
+    same(
+        rt,
+        server.next_lock(F, 3, 20),
+        Some(lock(3, Read, 20, OFFMAX)),
+    );
+    same(rt, server.next_lock(F, 3, 21), None);
+    same(rt, server.next_lock(F, LAST, 0), None);
+    same(rt, server.next_lock(G, 0, 0), None);
 }
 
 /// The flock locks, from some owners on.
@@ -76,11 +88,11 @@ fn lists_flocks(rt: &impl Abort, server: &LockServer) {
             mode: Read,
         },
     );
-    assert!(rt; server.next_flock(G, 0) == Some(two));
-    assert!(rt; server.next_flock(G, 2) == Some(two));
-    assert!(rt; server.next_flock(G, 3) == Some(last));
-    assert!(rt; server.next_flock(G, LAST) == Some(last));
-    assert!(rt; server.next_flock(F, 0) == None);
+    same(rt, server.next_flock(G, 0), Some(two));
+    same(rt, server.next_flock(G, 2), Some(two));
+    same(rt, server.next_flock(G, 3), Some(last));
+    same(rt, server.next_flock(G, LAST), Some(last));
+    same(rt, server.next_flock(F, 0), None);
 }
 
 /// The wait on the file at this place has the ticket, and this in its way.
@@ -92,13 +104,9 @@ fn is_behind(
     ticket: u64,
     obstacle: Obstacle,
 ) {
-    match server.wait_at(file, place) {
-        Some(waiting) => {
-            assert!(rt; waiting.pending.ticket == ticket);
-            assert!(rt; waiting.obstacle == obstacle);
-        }
-        None => assert!(rt; false),
-    }
+    let waiting = server.wait_at(file, place);
+    let told = waiting.map(|waiting| (waiting.pending.ticket, waiting.obstacle));
+    same(rt, told, Some((ticket, obstacle)));
 }
 
 /// The waits in order of arrival, and those of owners.
@@ -110,26 +118,30 @@ fn lists_waits(rt: &impl Abort, server: &LockServer) {
     is_behind(rt, server, F, 0, 70, Obstacle::Lock(lock(1, Write, 6, 9)));
     is_behind(rt, server, F, 1, 71, Obstacle::Wait(70));
     is_behind(rt, server, G, 0, 7, Obstacle::Flock(two));
-    assert!(rt; server.wait_at(F, 2) == None);
-    assert!(rt; server.wait_at(G, usize::MAX) == None);
+    same(rt, server.wait_at(F, 2), None);
+    same(rt, server.wait_at(G, usize::MAX), None);
     let (one, other, away) = (
         owner_wait(2, F, 70),
         owner_wait(3, F, 71),
         owner_wait(3, G, 7),
     );
-    assert!(rt; server.next_wait(owner_wait(0, 0, 0), LAST) == Some(one));
-    assert!(rt; server.next_wait(one, 2) == Some(one));
-    assert!(rt; server.next_wait(owner_wait(2, F, 71), 2) == None);
-    assert!(rt; server.next_wait(owner_wait(2, F, 71), LAST) == Some(other));
-    assert!(rt; server.next_wait(owner_wait(3, F, 72), 3) == Some(away));
-    assert!(rt; server.next_wait(owner_wait(3, G, 8), LAST) == None);
+    same(rt, server.next_wait(owner_wait(0, 0, 0), LAST), Some(one));
+    same(rt, server.next_wait(one, 2), Some(one));
+    same(rt, server.next_wait(owner_wait(2, F, 71), 2), None);
+    same(
+        rt,
+        server.next_wait(owner_wait(2, F, 71), LAST),
+        Some(other),
+    );
+    same(rt, server.next_wait(owner_wait(3, F, 72), 3), Some(away));
+    same(rt, server.next_wait(owner_wait(3, G, 8), LAST), None);
 }
 
 #[test]
 fn lists_what_stands(rt: HostRuntime) -> Result<(), Fail> {
     let server = &mut LockServer::new(rt.alloc(), stepwise(Policy::Queue));
-    assert!(&rt; server.next_file(0) == None);
-    assert!(&rt; server.next_wait(owner_wait(0, 0, 0), LAST) == None);
+    same(&rt, server.next_file(0), None);
+    same(&rt, server.next_wait(owner_wait(0, 0, 0), LAST), None);
     tells(&rt, server, STANDS)?;
     lists_files_and_locks(&rt, server);
     lists_flocks(&rt, server);
@@ -143,12 +155,12 @@ fn locks_as(rt: &impl Abort, server: &LockServer, model: &Model, file: u64) {
     for owner in 0..OWNERS {
         for byte in 0..BYTES {
             if let Some(lock) = model.lock_from(file, owner, byte) {
-                assert!(rt; server.next_lock(file, from.0, from.1) == Some(lock));
+                same(rt, server.next_lock(file, from.0, from.1), Some(lock));
                 from = (owner, byte.wrapping_add(1));
             }
         }
     }
-    assert!(rt; server.next_lock(file, from.0, from.1) == None);
+    same(rt, server.next_lock(file, from.0, from.1), None);
 }
 
 /// The same of the flock locks.
@@ -156,22 +168,19 @@ fn flocks_as(rt: &impl Abort, server: &LockServer, model: &Model, file: u64) {
     let mut from = 0u64;
     for owner in 0..OWNERS {
         if let Some(lock) = model.flock_of(file, owner) {
-            assert!(rt; server.next_flock(file, from) == Some(lock));
+            same(rt, server.next_flock(file, from), Some(lock));
             from = owner.wrapping_add(1);
         }
     }
-    assert!(rt; server.next_flock(file, from) == None);
+    same(rt, server.next_flock(file, from), None);
 }
 
 /// The same of the waits on a file.
 fn waits_as(rt: &impl Abort, server: &LockServer, model: &Model, file: u64) {
     for place in 0..9usize {
-        let told = server.wait_at(file, place);
-        match model.wait_at(file, place) {
-            Some((ticket, Some(obstacle))) => is_behind(rt, server, file, place, ticket, obstacle),
-            Some((_, None)) => assert!(rt; false),
-            None => assert!(rt; told == None),
-        }
+        let waiting = server.wait_at(file, place);
+        let told = waiting.map(|waiting| (waiting.pending.ticket, Some(waiting.obstacle)));
+        same(rt, told, model.wait_at(file, place));
     }
 }
 
@@ -182,12 +191,16 @@ fn owner_waits_as(rt: &impl Abort, server: &LockServer, model: &Model, last: u64
         for number in 0..16u64 {
             let (file, ticket) = (number / 8, number % 8);
             if owner <= last && model.waits_by(owner, file, ticket) {
-                assert!(rt; server.next_wait(from, last) == Some(owner_wait(owner, file, ticket)));
+                same(
+                    rt,
+                    server.next_wait(from, last),
+                    Some(owner_wait(owner, file, ticket)),
+                );
                 from = owner_wait(owner, file, ticket.wrapping_add(1));
             }
         }
     }
-    assert!(rt; server.next_wait(from, last) == None);
+    same(rt, server.next_wait(from, last), None);
 }
 
 /// The server lists just what the model has, in order.
@@ -195,14 +208,14 @@ pub(super) fn lists_as(rt: &impl Abort, server: &LockServer, model: &Model) {
     let mut from = 0u64;
     for file in 0..FILES {
         if model.has_file(file) {
-            assert!(rt; server.next_file(from) == Some(file));
+            same(rt, server.next_file(from), Some(file));
             from = file.wrapping_add(1);
         }
         locks_as(rt, server, model, file);
         flocks_as(rt, server, model, file);
         waits_as(rt, server, model, file);
     }
-    assert!(rt; server.next_file(from) == None);
+    same(rt, server.next_file(from), None);
     owner_waits_as(rt, server, model, 1);
     owner_waits_as(rt, server, model, OWNERS);
 }
@@ -215,25 +228,22 @@ fn many(rt: &impl Abort, server: &mut LockServer) -> Result<(), Memory> {
         tells(
             rt,
             server,
-            &[(F, Call::Set(owner, one, Some(Write)), Told::Done)],
-        )?;
-        tells(
-            rt,
-            server,
-            &[(F, Call::Set(owner, other, Some(Read)), Told::Done)],
-        )?;
-        tells(
-            rt,
-            server,
-            &[(F, Call::Flock(owner, Some(Read)), Told::Done)],
+            &[
+                (F, Call::Set(owner, one, Some(Write)), Told::Done),
+                (F, Call::Set(owner, other, Some(Read)), Told::Done),
+                (F, Call::Flock(owner, Some(Read)), Told::Done),
+            ],
         )?;
     }
     for owner in 1000..2000u64 {
         let byte = (owner - 1000) * 10;
-        let call = Call::Wait(owner, owner, (byte, byte), Read, false);
-        tells(rt, server, &[(F, call, Told::Waits)])?;
-        let call = Call::FlockWait(owner + 1000, owner, Write);
-        tells(rt, server, &[(F, call, Told::Waits)])?;
+        let wait = Call::Wait(owner, owner, (byte, byte), Read, false);
+        let flock = Call::FlockWait(owner + 1000, owner, Write);
+        tells(
+            rt,
+            server,
+            &[(F, wait, Told::Waits), (F, flock, Told::Waits)],
+        )?;
     }
     Ok(())
 }
@@ -246,9 +256,13 @@ fn lists_many(rt: &impl Abort, server: &LockServer) {
             lock(owner, Write, first, first + 3),
             lock(owner, Read, first + 5, first + 8),
         );
-        assert!(rt; server.next_lock(F, owner, 0) == Some(one));
-        assert!(rt; server.next_lock(F, owner, first + 1) == Some(other));
-        assert!(rt; server.next_flock(F, owner) == Some(FlockLock { owner, mode: Read }));
+        same(rt, server.next_lock(F, owner, 0), Some(one));
+        same(rt, server.next_lock(F, owner, first + 1), Some(other));
+        same(
+            rt,
+            server.next_flock(F, owner),
+            Some(FlockLock { owner, mode: Read }),
+        );
         let place = (owner * 2) as usize;
         is_behind(rt, server, F, place, owner + 1000, Obstacle::Lock(one));
         let zero = FlockLock {
@@ -264,11 +278,17 @@ fn lists_many(rt: &impl Abort, server: &LockServer) {
             Obstacle::Flock(zero),
         );
     }
-    assert!(rt; server.next_lock(F, 1000, 0) == None);
-    assert!(rt; server.next_flock(F, 1000) == None);
-    assert!(rt; server.next_wait(owner_wait(1999, 0, 0), LAST) == Some(owner_wait(1999, F, 1999)));
-    assert!(rt;
-        server.next_wait(owner_wait(1999, F, 2000), LAST) == Some(owner_wait(1999, F, 2999))
+    same(rt, server.next_lock(F, 1000, 0), None);
+    same(rt, server.next_flock(F, 1000), None);
+    same(
+        rt,
+        server.next_wait(owner_wait(1999, 0, 0), LAST),
+        Some(owner_wait(1999, F, 1999)),
+    );
+    same(
+        rt,
+        server.next_wait(owner_wait(1999, F, 2000), LAST),
+        Some(owner_wait(1999, F, 2999)),
     );
 }
 

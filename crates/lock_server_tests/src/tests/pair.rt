@@ -1,6 +1,6 @@
 //! A lock manager and a server that are asked for the same: the server by the calls that stand for a request, without descriptors. A
 //! traditional lock is its process', an OFD lock and a flock lock its description's.
-use super::calls::{ALL, Bytes, Call, Told, serve, stepwise};
+use super::calls::{ALL, Bytes, Call, Told, same, serve, stepwise};
 use fd_table::{Access, Limits};
 use lock_book::{Held, Owner};
 use lock_manager::{Errno, Manager, Note, Reply, Request, Rules};
@@ -217,7 +217,7 @@ impl Pair {
         }
         assert!(rt; self.manager.able(p));
         let notes = self.manager.take(p, self.number, request)?;
-        assert!(rt; notes.as_slice() == wanted.as_slice());
+        same(rt, notes.as_slice(), wanted.as_slice());
         self.number = self.number.wrapping_add(1);
         self.count(p, &notes);
         Ok(())

@@ -337,7 +337,7 @@ fn flock_seen(rt: &impl Abort, server: &mut LockServer, file: u64) -> Result<Tol
     let question = Call::Flock(STRANGER, Some(Write));
     let told = match serve(server, file, question) {
         Ok(told) => told,
-        Err(_) => serve_again(rt, server, file, question)?,
+        Err(_) => serve_again(rt, server, file, question),
     };
     if told == Told::Done {
         serve(server, file, Call::Flock(STRANGER, None))?;
@@ -346,15 +346,8 @@ fn flock_seen(rt: &impl Abort, server: &mut LockServer, file: u64) -> Result<Tol
 }
 
 /// A call that is made again after a refused growth: it must be answered, for at most one growth is refused in a run.
-fn serve_again(
-    rt: &impl Abort,
-    server: &mut LockServer,
-    file: u64,
-    call: Call,
-) -> Result<Told, Memory> {
-    let second = serve(server, file, call);
-    assert!(rt; second.is_ok(), "refused again");
-    second
+fn serve_again(rt: &impl Abort, server: &mut LockServer, file: u64, call: Call) -> Told {
+    serve(server, file, call).expect(rt, "refused again")
 }
 
 /// Each call tells what its row says. Where a growth is refused, as by a test run with one allocation failing, all is as before and
@@ -366,7 +359,7 @@ fn follow(rt: &impl Abort, server: &mut LockServer, rows: &[Row]) -> Result<(), 
             Ok(told) => told,
             Err(_) => {
                 assert!(rt; seen(rt, server, *file)? == before, "row {place}");
-                serve_again(rt, server, *file, *call)?
+                serve_again(rt, server, *file, *call)
             }
         };
         assert!(rt; told == *wanted, "row {place}");
@@ -400,17 +393,14 @@ fn worked_runs_come_out(rt: HostRuntime) -> Result<(), Fail> {
 }
 
 /// An owner whose note was refused isn't known by the open file.
-fn note_twice(rt: &impl Abort, server: &mut LockServer, lock: Row) -> Result<(), Memory> {
+fn note_twice(rt: &impl Abort, server: &mut LockServer, lock: Row) {
     for open_file in [20, 21] {
         let (note, release) = (Call::Note(1, open_file), Call::Release(open_file, None));
         if serve(server, 3, note).is_err() {
             let rows = [(3, release, Told::Done), lock, (3, note, Told::Done)];
-            let again = tells(rt, server, &rows);
-            assert!(rt; again.is_ok(), "refused again");
-            again?;
+            tells(rt, server, &rows).expect(rt, "refused again");
         }
     }
-    Ok(())
 }
 
 /// A lock goes with the last close of the open file through which its owner came last, and with none through which it didn't come.
@@ -422,7 +412,7 @@ fn release_twice(rt: &impl Abort, server: &mut LockServer) -> Result<(), Memory>
         server,
         &[(3, Call::Set(1, (0, 9), Some(Write)), Told::Done)],
     )?;
-    note_twice(rt, server, lock)?;
+    note_twice(rt, server, lock);
     tells(
         rt,
         server,

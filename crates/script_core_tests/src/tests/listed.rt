@@ -1,7 +1,7 @@
 //! The lock manager against one whose waits are a plain list, request by request: on the worked scripts, and on scripts that are made by a
 //! written rule.
-use super::RULES;
 use super::made::{next_process, next_request, next_request_in_sections};
+use super::same;
 use super::taking::script_of;
 use super::worked::ROWS;
 use fd_table::{Access, Limits};
@@ -126,11 +126,8 @@ impl Both {
             let Entry { p, n, request, .. } = *entry;
             assert!(rt; 1 <= p && p <= 64 && self.listed.is_able(p), "{p}#{n}");
             let notes = self.listed.take(p, n, request)?;
-            assert_eq!(rt;
-                notes.as_slice(),
-                entry.notes.as_slice(),
-                "{p}#{n} {request:?}"
-            );
+            let told = (p, n, request, notes.as_slice());
+            same(rt, told, (p, n, request, entry.notes.as_slice()));
             seen.count(entry);
         }
         Ok(())
@@ -147,12 +144,13 @@ fn lines_of(text: &[u8]) -> usize {
 fn tells_the_worked_notes(rt: HostRuntime) -> Result<(), Fail> {
     for row in ROWS {
         let mut seen = Seen::default();
-        let script = script_of(&rt, rt.alloc(), row)?;
+        let script = script_of(&rt, rt.alloc(), row);
         let mut both = Both::new(rt.alloc(), script.rules)?;
         for (p, request) in &script.arrivals {
             both.send(&rt, *p, *request, &mut seen)?;
         }
-        assert_eq!(rt; seen.entries, lines_of(row.entries) as u64, "{}", row.name);
+        let due = lines_of(row.entries) as u64;
+        same(&rt, (row.name, seen.entries), (row.name, due));
     }
     Ok(())
 }
@@ -187,20 +185,42 @@ fn lock_of_byte(number: u8) -> Request {
     }
 }
 
+/// Both tell the same on the script of this number, of 40 requests behind the opening, of which some are of sections where that is wanted.
+fn send_script(
+    rt: &impl Abort,
+    alloc: Global,
+    x: u64,
+    has_sections: bool,
+    seen: &mut Seen,
+) -> Result<(), Fail> {
+    let mut both = Both::new(alloc, rules_of(x))?;
+    open_all(rt, &mut both, seen)?;
+    let mut rule = Rule::new(x);
+    for _request in 0..40u8 {
+        let p = next_process(&mut rule);
+        let request = match has_sections {
+            false => next_request(&mut rule),
+            true => next_request_in_sections(&mut rule),
+        };
+        both.send(rt, p, request, seen)?;
+    }
+    Ok(())
+}
+
+/// What comes up in 500 such scripts.
+fn send_scripts(rt: &impl Abort, alloc: Global, has_sections: bool) -> Result<Seen, Fail> {
+    let mut seen = Seen::default();
+    for x in 0..500u64 {
+        send_script(rt, alloc, x, has_sections, &mut seen)?;
+    }
+    Ok(seen)
+}
+
 /// Both tell the same on 500 scripts of 40 requests each behind the opening, in which waits begin, are granted, are interrupted and would
 /// close cycles, and conversions by flock let others pass.
 #[test]
 fn tells_the_same_notes_often(rt: HostRuntime) -> Result<(), Fail> {
-    let mut seen = Seen::default();
-    for x in 0..500u64 {
-        let mut both = Both::new(rt.alloc(), rules_of(x))?;
-        open_all(&rt, &mut both, &mut seen)?;
-        let mut rule = Rule::new(x);
-        for _request in 0..40u8 {
-            let p = next_process(&mut rule);
-            both.send(&rt, p, next_request(&mut rule), &mut seen)?;
-        }
-    }
+    let seen = send_scripts(&rt, rt.alloc(), false)?;
     assert!(rt;
         seen.entries > 20000 && seen.waits > 1000 && seen.grants > 250,
         "{seen:?}"
@@ -215,16 +235,7 @@ fn tells_the_same_notes_often(rt: HostRuntime) -> Result<(), Fail> {
 /// So they do on 500 scripts in which processes also enter sections, leave them and bail.
 #[test]
 fn tells_the_same_of_sections_often(rt: HostRuntime) -> Result<(), Fail> {
-    let mut seen = Seen::default();
-    for x in 0..500u64 {
-        let mut both = Both::new(rt.alloc(), rules_of(x))?;
-        open_all(&rt, &mut both, &mut seen)?;
-        let mut rule = Rule::new(x);
-        for _request in 0..40u8 {
-            let p = next_process(&mut rule);
-            both.send(&rt, p, next_request_in_sections(&mut rule), &mut seen)?;
-        }
-    }
+    let seen = send_scripts(&rt, rt.alloc(), true)?;
     assert!(rt;
         seen.visits > 1000 && seen.ended > 250 && seen.stayed > 250,
         "{seen:?}"

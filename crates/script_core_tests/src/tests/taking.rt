@@ -1,15 +1,13 @@
 //! The worked scripts event by event. Where a growth of `take_next` is refused, all is as before, and the same call made again tells the
 //! notes of the script: so of each event, whichever growth is refused.
-use super::again;
 use super::worked::ROWS;
+use super::{again, same};
 use lock_book::Held;
 use lock_manager::{ProcState, Request};
-use range_core::Memory;
-use script_core::{Cause, Script, ScriptFault, parse, write_entry};
+use script_core::{Cause, Script, parse, write_entry};
 use session_core::{ArriveFault, Session};
 use std::alloc::Global;
 use std::process::Abort;
-use std::test::Fail;
 use wait_core::Wait;
 
 /// A worked script.
@@ -30,17 +28,17 @@ struct Standing {
     states: [ProcState; 64],
 }
 
-fn all_held(rt: &impl Abort, session: &Session) -> Result<Vec<Held>, Memory> {
+fn all_held(rt: &impl Abort, session: &Session) -> Vec<Held> {
     match session.manager().held() {
+        Ok(held) => held,
         Err(_) => again(rt, session.manager().held()),
-        first => first,
     }
 }
 
-fn all_waits(rt: &impl Abort, session: &Session) -> Result<Vec<Wait>, Memory> {
+fn all_waits(rt: &impl Abort, session: &Session) -> Vec<Wait> {
     match session.manager().waits() {
+        Ok(waits) => waits,
         Err(_) => again(rt, session.manager().waits()),
-        first => first,
     }
 }
 
@@ -52,31 +50,34 @@ fn all_states(session: &Session) -> [ProcState; 64] {
     states
 }
 
-fn standing_of(rt: &impl Abort, session: &Session) -> Result<Standing, Memory> {
-    Ok(Standing {
-        held: all_held(rt, session)?,
-        waits: all_waits(rt, session)?,
+fn standing_of(rt: &impl Abort, session: &Session) -> Standing {
+    Standing {
+        held: all_held(rt, session),
+        waits: all_waits(rt, session),
         states: all_states(session),
-    })
+    }
 }
 
 /// Appends the line of the entry at this place of the journal, from 0. Refused memory leaves a front of it, which is cut off.
-fn push_line(
-    rt: &impl Abort,
-    session: &Session,
-    place: usize,
-    text: &mut Vec<u8>,
-) -> Result<(), Memory> {
+fn push_line(rt: &impl Abort, session: &Session, place: usize, text: &mut Vec<u8>) {
     let entry = session
         .journal()
         .get(place)
         .expect(rt, "there is such an entry");
     let old = text.len();
-    if write_entry(entry, text).is_ok() {
-        return Ok(());
+    if write_entry(entry, text).is_err() {
+        text.truncate(old);
+        again(rt, write_entry(entry, text));
     }
-    text.truncate(old);
-    again(rt, write_entry(entry, text))
+}
+
+/// The lines of the session's journal.
+fn all_lines(rt: &impl Abort, alloc: Global, session: &Session) -> Vec<u8> {
+    let mut text = Vec::new(alloc);
+    for place in 0..session.journal().len() {
+        push_line(rt, session, place, &mut text);
+    }
+    text
 }
 
 /// The session stands as it did before, and its journal has just these lines.
@@ -86,33 +87,23 @@ fn assert_stands(
     session: &Session,
     before: &Standing,
     lines: &[u8],
-) -> Result<(), Memory> {
-    let after = standing_of(rt, session)?;
-    assert!(rt; after.held.as_slice() == before.held.as_slice());
-    assert!(rt; after.waits.as_slice() == before.waits.as_slice());
+) {
+    let after = standing_of(rt, session);
+    same(rt, after.held.as_slice(), before.held.as_slice());
+    same(rt, after.waits.as_slice(), before.waits.as_slice());
     assert!(rt; after.states == before.states);
-    let mut text = Vec::new(alloc);
-    for place in 0..session.journal().len() {
-        push_line(rt, session, place, &mut text)?;
-    }
-    assert!(rt; text.as_slice() == lines);
-    Ok(())
+    same(rt, all_lines(rt, alloc, session).as_slice(), lines);
 }
 
 /// `take_next` of a session whose journal has these lines; a refused growth must leave all as it was.
-fn take_next(
-    rt: &impl Abort,
-    alloc: Global,
-    session: &mut Session,
-    lines: &[u8],
-) -> Result<Option<u64>, Memory> {
-    let before = standing_of(rt, session)?;
+fn take_next(rt: &impl Abort, alloc: Global, session: &mut Session, lines: &[u8]) -> Option<u64> {
+    let before = standing_of(rt, session);
     match session.take_next() {
+        Ok(place) => place,
         Err(_) => {
-            assert_stands(rt, alloc, session, &before, lines)?;
+            assert_stands(rt, alloc, session, &before, lines);
             again(rt, session.take_next())
         }
-        first => first,
     }
 }
 
@@ -124,17 +115,16 @@ fn take_all(
     most: usize,
     row: &Row,
     lines: &mut Vec<u8>,
-) -> Result<(), Memory> {
+) {
     for _ in 0..most {
-        let Some(place) = take_next(rt, alloc, session, lines.as_slice())? else {
-            return Ok(());
+        let Some(place) = take_next(rt, alloc, session, lines.as_slice()) else {
+            return;
         };
         assert!(rt; place == session.journal().len() as u64, "{}", row.name);
         let last = session.journal().len().saturating_sub(1);
-        push_line(rt, session, last, lines)?;
+        push_line(rt, session, last, lines);
         assert!(rt; row.entries.starts_with(lines.as_slice()), "{}", row.name);
     }
-    Ok(())
 }
 
 /// [`Session::arrive`].
@@ -155,36 +145,35 @@ fn arrive(rt: &impl Abort, session: &mut Session, p: u8, request: Request) {
     }
 }
 
-fn session_of(rt: &impl Abort, alloc: Global, script: &Script) -> Result<Session, Memory> {
+fn session_of(rt: &impl Abort, alloc: Global, script: &Script) -> Session {
     let rules = script.rules;
     let processes = rules.limits.processes();
     assert!(rt; 1 <= processes);
     match Session::new(alloc, processes, rules) {
+        Ok(session) => session,
         Err(_) => again(rt, Session::new(alloc, processes, rules)),
-        first => first,
     }
 }
 
 /// What the script says.
-pub(super) fn script_of(rt: &impl Abort, alloc: Global, row: &Row) -> Result<Script, ScriptFault> {
+pub(super) fn script_of(rt: &impl Abort, alloc: Global, row: &Row) -> Script {
     match parse(alloc, row.script) {
+        Ok(script) => script,
         Err(fault) => {
             assert!(rt;
                 matches!(fault.cause, Cause::Memory(_)),
                 "{}: {fault}",
                 row.name
             );
-            let second = parse(alloc, row.script);
-            assert!(rt; second.is_ok(), "refused again");
-            second
+            parse(alloc, row.script).expect(rt, "refused again")
         }
-        first => first,
     }
 }
 
 /// The arrivals of the script, taken in turn, lead to just its entries.
-fn run(rt: &impl Abort, alloc: Global, row: &Row, script: &Script) -> Result<(), Memory> {
-    let mut session = session_of(rt, alloc, script)?;
+fn run(rt: &impl Abort, alloc: Global, row: &Row) {
+    let script = script_of(rt, alloc, row);
+    let mut session = session_of(rt, alloc, &script);
     let mut lines = Vec::new(alloc);
     for (p, request) in &script.arrivals {
         arrive(rt, &mut session, *p, *request);
@@ -195,17 +184,14 @@ fn run(rt: &impl Abort, alloc: Global, row: &Row, script: &Script) -> Result<(),
             script.arrivals.len(),
             row,
             &mut lines,
-        )?;
+        );
     }
     assert!(rt; lines.as_slice() == row.entries, "{}", row.name);
-    Ok(())
 }
 
 #[test]
-fn worked_scripts_are_taken(rt: HostRuntime) -> Result<(), Fail> {
+fn worked_scripts_are_taken(rt: HostRuntime) {
     for row in ROWS {
-        let script = script_of(&rt, rt.alloc(), row)?;
-        run(&rt, rt.alloc(), row, &script)?;
+        run(&rt, rt.alloc(), row);
     }
-    Ok(())
 }

@@ -69,22 +69,22 @@ fn journal(alloc: Global, front: usize, rest: &[Line]) -> Result<Vec<Entry>, Mem
 }
 
 /// Whether the entries are a run of so many processes.
-fn is_run(rt: &impl Abort, alloc: Global, processes: u8, entries: &[Entry]) -> Result<bool, Memory>
+fn is_run(rt: &impl Abort, alloc: Global, processes: u8, entries: &[Entry]) -> bool
     requires { (1 ≤ processes) × (processes ≤ 16) }
 {
     match check_journal(alloc, processes, RULES, entries) {
+        Ok(is_run) => is_run,
         Err(_) => again(rt, check_journal(alloc, processes, RULES, entries)),
-        first => first,
     }
 }
 
 /// At the opening, with so many processes.
-fn checker_of(rt: &impl Abort, alloc: Global, processes: u8) -> Result<JournalChecker, Memory>
+fn checker_of(rt: &impl Abort, alloc: Global, processes: u8) -> JournalChecker
     requires { (1 ≤ processes) × (processes ≤ 16) }
 {
     match JournalChecker::new(alloc, processes, RULES) {
+        Ok(checker) => checker,
         Err(_) => again(rt, JournalChecker::new(alloc, processes, RULES)),
-        first => first,
     }
 }
 
@@ -135,7 +135,7 @@ fn is_judged(
     requires { (1 ≤ case.now.processes) × (case.now.processes ≤ 16) }
 {
     let all_legal = case.legal == entries.len();
-    if is_run(rt, alloc, case.processes, entries)? != all_legal {
+    if is_run(rt, alloc, case.processes, entries) != all_legal {
         return Ok(false);
     }
     if accepted(rt, checker, entries) != case.legal || !is_expected(checker, case.expects) {
@@ -149,7 +149,7 @@ fn is_case_judged(rt: &impl Abort, alloc: Global, case: &Case) -> Result<bool, M
     requires { (1 ≤ case.now.processes) × (case.now.processes ≤ 16) }
 {
     let entries = journal(alloc, case.front, case.rest)?;
-    let mut checker = checker_of(rt, alloc, case.processes)?;
+    let mut checker = checker_of(rt, alloc, case.processes);
     is_judged(rt, alloc, &mut checker, case, &entries)
 }
 
@@ -284,7 +284,7 @@ fn tells_both(
 
 #[test]
 fn a_checker_tells_the_state_and_the_counts(rt: HostRuntime) -> Result<(), Fail> {
-    let mut checker = checker_of(&rt, rt.alloc(), 3)?;
+    let mut checker = checker_of(&rt, rt.alloc(), 3);
     assert!(rt; tells_both(&rt, rt.alloc(), &mut checker)?);
     Ok(())
 }
@@ -337,7 +337,7 @@ fn accepts_often(
 /// A checker keeps no entry, so a journal may be of any length: here each entry is dropped as soon as it was accepted.
 #[test]
 fn a_checker_accepts_entries_often(rt: HostRuntime) -> Result<(), Fail> {
-    let mut checker = checker_of(&rt, rt.alloc(), 3)?;
+    let mut checker = checker_of(&rt, rt.alloc(), 3);
     assert!(rt; accepts_often(&rt, rt.alloc(), &mut checker)?);
     Ok(())
 }
