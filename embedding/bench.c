@@ -1,8 +1,9 @@
 /* How long calls of the library take, and what memory, at growing sizes: files, each locked by one of a tenth as many owners, and as
  * many waits as owners, each of an owner for the next, so that a last one closes a cycle through all; then a flush of each file, which
  * grants the waits. Prints a line for each size and policy. Each size has a process of its own, so that its memory is its own. And then what
- * single calls take beside so many runs, owners, waits or files, and how that grows. */
+ * single calls take beside so many runs, owners, waits or files, and how that grows; and what memory one of so many takes. */
 #include "dehokuna.h"
+#include <malloc.h>
 #include <stdio.h>
 #include <stdlib.h>
 #include <string.h>
@@ -365,6 +366,61 @@ static double a_call(const struct row *row, uint64_t n) {
     return took * 1e6;
 }
 
+/* A row of the third table: what one more of so many takes of malloc, by its own count of the blocks in use. */
+static size_t taken(void) {
+    const struct mallinfo2 blocks = mallinfo2();
+    return blocks.uordblks + blocks.hblkhd;
+}
+
+static void leave(struct dehokuna_server *server) { (void)server; }
+
+static void lock_files(struct dehokuna_server *server, uint64_t owner) {
+    for (uint64_t file = 0; file < LARGEST; file++)
+        DEMAND(dehokuna_set(server, file, owner, 10 * owner, 10 * owner + 9, DEHOKUNA_WRITE) == DEHOKUNA_DONE);
+}
+
+static void lock_each_file(struct dehokuna_server *server) { lock_files(server, 1); }
+static void lock_each_again(struct dehokuna_server *server) { lock_files(server, 2); }
+
+static void wait_on_each_file(struct dehokuna_server *server) {
+    for (uint64_t file = 0; file < LARGEST; file++)
+        DEMAND(dehokuna_wait(server, file, file, HOLDER + file, 10, 10, DEHOKUNA_WRITE, false) == DEHOKUNA_WAITS);
+}
+
+static void lock_of_each(struct dehokuna_server *server) { own_each(server, LARGEST, DEHOKUNA_WRITE); }
+
+static void wait_for_each(struct dehokuna_server *server) {
+    for (uint64_t owner = 0; owner < LARGEST; owner++) wait_for(server, owner, HOLDER + owner, 4 * owner, DEHOKUNA_WRITE);
+}
+
+static void lock_apart(struct dehokuna_server *server) {
+    for (uint64_t run = 0; run < LARGEST; run++) set(server, 1, 4 * run, 4 * run + 1, DEHOKUNA_WRITE);
+}
+
+static const struct {
+    const char *name;
+    void (*prepare)(struct dehokuna_server *server), (*grow)(struct dehokuna_server *server);
+} SHARES[] = {
+    {"a file with a lock", leave, lock_each_file},
+    {"a second owner's lock there", lock_each_file, lock_each_again},
+    {"a first wait there", lock_each_file, wait_on_each_file},
+    {"an owner with a lock, of n on one file", leave, lock_of_each},
+    {"a wait there, of n", lock_of_each, wait_for_each},
+    {"a run of one owner, of n", leave, lock_apart},
+};
+
+static void print_shares(void) {
+    printf("\n| Of n = 100,000 | bytes |\n|---|---|\n");
+    for (size_t k = 0; k < sizeof SHARES / sizeof *SHARES; k++) {
+        struct dehokuna_server server = made();
+        SHARES[k].prepare(&server);
+        const size_t before = taken();
+        SHARES[k].grow(&server);
+        printf("| %s | %.0f |\n", SHARES[k].name, (double)(taken() - before) / LARGEST);
+        dehokuna_destroy(&server);
+    }
+}
+
 int main(void) {
     printf("| Policy | Files | Owners and waits | a set, ns | a wait, ns | a cycle through all, ms | a flush with its grants, ns | MiB |\n");
     printf("|---|---|---|---|---|---|---|---|\n");
@@ -379,5 +435,6 @@ int main(void) {
         for (int size = 0; size < 3; size++, n *= TIMES) took[size] = a_call(&ROWS[k], n);
         printf("| %s | %.2f | %.2f | %.2f | %.1f |\n", ROWS[k].name, took[0], took[1], took[2], took[2] / took[0]);
     }
+    print_shares();
     return 0;
 }
