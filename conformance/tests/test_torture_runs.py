@@ -75,6 +75,16 @@ class Runs(unittest.TestCase):
         self.assertEqual(ended.returncode, 2)
         self.assertIn("# SKIP not judged", ended.stdout)
 
+    def test_a_round_whose_judging_takes_too_long_is_not_judged(self) -> None:
+        slow = self.folder / "slow"
+        slow.write_text('#!/bin/sh\n[ -n "$(cat)" ] || exit 0\nexec sleep 60\n')
+        slow.chmod(0o755)
+        begun = time.monotonic()
+        ended = self.run_it("--judging", "0.2", judge=slow)
+        self.assertEqual(ended.returncode, 2)
+        self.assertIn("# SKIP not judged", ended.stdout)
+        self.assertLess(time.monotonic() - begun, 60)
+
     def test_a_history_that_is_refused_stops_the_run(self) -> None:
         ended = self.run_it(judge=self.lying(2, "line 1: 2 Word"))
         self.assertEqual(ended.returncode, 2)

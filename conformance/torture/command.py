@@ -44,6 +44,7 @@ def parser() -> argparse.ArgumentParser:
     made.add_argument("--only", choices=("fcntl", "flock"), help="ask for byte locks alone, or for flock locks alone: where the two meet, as on NFS")
     made.add_argument("--patience", metavar="SECONDS", type=float, default=3.0, help="how long nothing may move until a round is over (3)")
     made.add_argument("--limit", metavar="N", type=int, help="how many possibilities lockreplay may keep")
+    made.add_argument("--judging", metavar="SECONDS", type=float, help="how long a round may be judged (as long as it takes)")
     made.add_argument("--keep-going", action="store_true", help="go on behind a round that is illegal")
     made.add_argument("--keep", metavar="FILE", type=Path, default=Path("locktorture-window"), help="where the shortest illegal window goes")
     made.add_argument("--save", metavar="FOLDER", type=Path, help="keep all histories there, by the numbers of their rounds")
@@ -111,7 +112,7 @@ class Torture:
 
 def run(options: argparse.Namespace) -> int:
     """Runs what the command line says; the exit status."""
-    judge = HistoryJudge(program_of(options), options.limit)
+    judge = HistoryJudge(program_of(options), options.limit, options.judging)
     judge.judge("")
     if options.save:
         options.save.mkdir(parents=True, exist_ok=True)

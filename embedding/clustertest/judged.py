@@ -56,10 +56,12 @@ def race(nodes: Nodes, seconds: int = 20) -> str:
     program = Path(__file__).resolve().parent.parent.parent / "conformance" / "locktorture"
     places = [nodes.mount(node) / "torture" for node in nodes.all()]
     places[0].mkdir()
-    words = [sys.executable, program, "--seconds", seconds, "--clients", CLIENTS, *places]
+    words = [sys.executable, program, "--seconds", seconds, "--clients", CLIENTS, "--judging", JUDGING_S, *places]
     ran = subprocess.run([str(word) for word in words], capture_output=True, text=True, check=False, timeout=300)
     require(ran.returncode == 0, f"status {ran.returncode}: {ran.stdout[-1500:]}{ran.stderr[-500:]}")
-    return f"{ran.stdout.count('ok ')} rounds"
+    count, skipped = ran.stdout.count("ok "), ran.stdout.count("# SKIP")
+    require(2 * skipped < count, f"{count} rounds, {skipped} are not judged")
+    return f"{count} rounds, {skipped} over the limit"
 
 
 class Rounds(Keeper):
