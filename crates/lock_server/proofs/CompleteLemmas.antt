@@ -1,10 +1,9 @@
 -- Where bytes are a server's export, they aren't refused: for `LockServer::import`.
-use Rattle.std.proofs.Common.{ℕ, ◌≡◌, ◌∙◌, sym, ap, subst, List, Option}
+use Rattle.std.proofs.Common.{ℕ, ◌≡◌, sym, ap, subst, List, Option}
 use Rattle.std.specs.Prelude.{IsErrAnd, Ok, Err, Result}
 use Rattle.range_core.specs.declared.memory.Memory.{Memory as Wanting}
 use Rattle.lock_server.specs.declared.ImportFault.{ImportFault}
 use Rattle.lock_server.specs.declared.ImportFault.TheVariants.{Invalid, Memory}
-use Rattle.wait_core.specs.declared.Policy.{Policy}
 use Rattle.lock_server.specs.declared.Rules.{Rules}
 use Rattle.lock_server.specs.declared.import.parts.Parts.{Parts}
 use Rattle.lock_server.specs.declared.server.LockServer.{LockServer}
@@ -72,11 +71,7 @@ module _ (server : LockServer) (bytes : List ℕ) (export : IsExportOf server by
     notes_told = notes_of (through_of server) parts.notes.items is_told.notes
 
     -- a server that was made in the same state, with the same notes, has this export
-    pub made_has : (policy : Policy) (T : State) (next : ℕ → ℕ → Option ℕ) → policy ≡ parts.rules.policy → SameState (state_of server) T
-        → SameOpenings (through_of server) next → IsExport (record { policy = policy; conversion = parts.rules.conversion }) T next bytes
-    made_has policy T next of_policy of_state of_notes =
-        export_same (rules_of server) (record { policy = policy; conversion = parts.rules.conversion }) (state_of server) T (through_of server) next bytes
-        (λ i. record {
-          policy = (of_policy ∙ ap (λ (r : Rules). r.policy) rules_told) i;
-          conversion = ap (λ (r : Rules). r.conversion) rules_told i;
-        }) of_state of_notes export
+    pub made_has : (T : State) (next : ℕ → ℕ → Option ℕ) → SameState (state_of server) T → SameOpenings (through_of server) next
+        → IsExport parts.rules T next bytes
+    made_has T next of_state of_notes =
+        export_same (rules_of server) parts.rules (state_of server) T (through_of server) next bytes rules_told of_state of_notes export

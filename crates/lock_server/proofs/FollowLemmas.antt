@@ -25,7 +25,7 @@ use Rattle.lock_server.specs.Lacking.{IsFirstPartLacking}
 use Rattle.lock_server.specs.LookedAt.{AreTold, Follows, NotesLook, looked_modes}
 use Rattle.lock_server.specs.Pendings.{as_wait}
 use Rattle.lock_server.specs.Settling.{IsAtLeast}
-use Rattle.lock_server.specs.TableView.{entry_of, table_policy, table_state}
+use Rattle.lock_server.specs.TableView.{entry_of, table_state}
 use Rattle.lock_server.specs.WaitersView.{files_of}
 use Rattle.lock_server.specs.declared.waiters.Waiters.{Waiters}
 use Rattle.lock_server.proofs.BlockerLemmas.{IsStepAt, place_of_step, step_from_place}
@@ -352,12 +352,12 @@ module _ {X : Type 0} (table : Table) (target : ℕ) (Gives : ℕ → X → ℕ 
       )) before
 
 -- the waits of an owner on one file
-module _ (table : Table) (target file owner : ℕ) (old : Reached) where
+module _ (policy : Policy) (table : Table) (target file owner : ℕ) (old : Reached) where
   abbrev Here : FileState
   Here = (table_state table).files file
 
   abbrev Gives : ℕ → Pending → ℕ → Type 0
-  Gives = IsStepAt (table_policy table) Here owner
+  Gives = IsStepAt policy Here owner
 
   -- up to the next detected one
   pub waits_up_to : (from place : ℕ) (mid : Reached) → IsNextDetected Here.waits owner from place → Follows table target (IsGivenBefore Gives Here.waits from) old mid
@@ -368,12 +368,12 @@ module _ (table : Table) (target file owner : ℕ) (old : Reached) where
 
   pub wait_more : (place : ℕ) (wait : Pending) (mid new : Reached) → slice_get Here.waits place ≡ Some wait → IsDetectedAt Here.waits owner place
       → Follows table target (IsGivenBefore Gives Here.waits place) old mid
-      → Follows table target (IsBlockedByOwner (table_policy table) Here (take place Here.waits) wait) mid new
+      → Follows table target (IsBlockedByOwner policy Here (take place Here.waits) wait) mid new
       → Follows table target (IsGivenBefore Gives Here.waits (place + 1)) old new
   wait_more place wait mid new at detected before follows =
       let same : detected.0 ≡ wait = same_Some detected.0 wait (sym detected.1 ∙ at) in
       given_more table target Gives Here.waits place wait old mid new at before
-      (followed_as table target (IsBlockedByOwner (table_policy table) Here (take place Here.waits) wait) (Gives place wait) mid new
+      (followed_as table target (IsBlockedByOwner policy Here (take place Here.waits) wait) (Gives place wait) mid new
       (λ other. (
         λ blocked. record {
           detected = subst (λ (w : Pending). IsTrue w.detect) same detected.2;
@@ -384,25 +384,25 @@ module _ (table : Table) (target file owner : ℕ) (old : Reached) where
       )) follows)
 
   pub waits_all : (from : ℕ) (new : Reached) → IsNoneDetected Here.waits owner from → Follows table target (IsGivenBefore Gives Here.waits from) old new
-      → Follows table target (WaitsForOn (table_policy table) Here owner) old new
+      → Follows table target (WaitsForOn policy Here owner) old new
   waits_all from new none before =
-      given_all table target Gives Here.waits (from + length Here.waits) (WaitsForOn (table_policy table) Here owner) old new (omega arith)
-      (λ other place wait at step. step_from_place (table_policy table) Here owner other place wait at step)
-      (λ other step. place_of_step (table_policy table) Here owner other step)
+      given_all table target Gives Here.waits (from + length Here.waits) (WaitsForOn policy Here owner) old new (omega arith)
+      (λ other place wait at step. step_from_place policy Here owner other place wait at step)
+      (λ other step. place_of_step policy Here owner other step)
       (given_past table target Gives Here.waits from (from + length Here.waits) old new (omega arith)
       (λ place x other late early at step. none place late (x, at, step.detected, step.of_one)) before)
 
 -- the files of an owner gave all for which it waits
-module _ (table : Table) (target owner : ℕ) where
+module _ (policy : Policy) (table : Table) (target owner : ℕ) where
   pub files_all : (old new : Reached) (i : ℕ) → length (files_of table.waiters owner) ≤ i
       → Follows table target (IsGivenBefore
-      (λ place file other. WaitsForOn table.policy (state_in table.files file) owner other) (files_of table.waiters owner) i) old new
-      → Follows table target (WaitsFor (table_policy table) (table_state table) owner) old new
-  unfolding table_policy table_state entry_of
+      (λ place file other. WaitsForOn policy (state_in table.files file) owner other) (files_of table.waiters owner) i) old new
+      → Follows table target (WaitsFor policy (table_state table) owner) old new
+  unfolding table_state entry_of
   files_all old new i past follows =
-      given_all table target (λ place file other. WaitsForOn table.policy (state_in table.files file) owner other) (files_of table.waiters owner) i
-      (WaitsFor (table_policy table) (table_state table) owner) old new past (λ other place file at step. record { file = file; on_file = step })
+      given_all table target (λ place file other. WaitsForOn policy (state_in table.files file) owner other) (files_of table.waiters owner) i
+      (WaitsFor policy (table_state table) owner) old new past (λ other place file at step. record { file = file; on_file = step })
       (λ other step.
-      let among = file_of_step table.policy table.files table.tickets table.waiters table.indexed owner step.file other step.on_file in
+      let among = file_of_step policy table.files table.tickets table.waiters table.indexed owner step.file other step.on_file in
       (among.0, step.file, slice_get-get_or (files_of table.waiters owner) among.0 step.file among.1 ∙ ap (λ (n : ℕ). Some n) among.2, step.on_file))
       follows

@@ -28,7 +28,7 @@ use Rattle.lock_server.specs.Freed.{reach_of}
 use Rattle.lock_server.specs.Pendings.{as_wait}
 use Rattle.lock_server.specs.Safety.{IsSafe}
 use Rattle.lock_server.specs.Settling.{AllBlocked, HasAlready, HasIn, IsAtLeast, IsHeldBack, IsSettled, IsWaitBlocked, PendingsConflict}
-use Rattle.lock_server.specs.TableView.{table_policy, table_state}
+use Rattle.lock_server.specs.TableView.{table_state}
 use Rattle.lock_server.proofs.FreedLemmas.{conflict_reaches, reaches_or_not}
 use Rattle.lock_server.proofs.ListLemmas.{Any-cons, Any-here, Any-nil, Any-there}
 
@@ -300,7 +300,7 @@ all_known policy F earlier (wait ∷ waits) known =
     (blocked_known policy F earlier wait (∥∥₁_map known (λ all. all.0)), all_known policy F (earlier ++ wait ∷ []) waits (∥∥₁_map known (λ all. all.1)))
 
 -- so of a table that is known to be safe each file is settled
-pub settled_known : (table : Table) (file : ℕ) → ∥ IsSafe (table_policy table) (table_state table) ∥₁
-    → IsSettled (table_policy table) ((table_state table).files file)
-settled_known table file holds =
-    all_known (table_policy table) ((table_state table).files file) [] ((table_state table).files file).waits (∥∥₁_map holds (λ safe. safe.settled file))
+pub settled_known : (policy : Policy) (table : Table) (file : ℕ) → ∥ IsSafe policy (table_state table) ∥₁
+    → IsSettled policy ((table_state table).files file)
+settled_known policy table file holds =
+    all_known policy ((table_state table).files file) [] ((table_state table).files file).waits (∥∥₁_map holds (λ safe. safe.settled file))

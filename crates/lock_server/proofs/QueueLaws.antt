@@ -20,7 +20,7 @@ use Rattle.lock_server.specs.Files.{FileState, by_owner, locks_on}
 use Rattle.lock_server.specs.Pendings.{as_wait}
 use Rattle.lock_server.specs.Safety.{IsCompatible}
 use Rattle.lock_server.specs.ServerView.{state_of}
-use Rattle.lock_server.specs.TableView.{table_policy, table_state}
+use Rattle.lock_server.specs.TableView.{table_state}
 use Rattle.lock_server.specs.Queueing.{QueueIsKept}
 use Rattle.lock_server.specs.Settling.{AllBlocked, HasAlready, HasIn, IsAtLeast, IsBlockedUnless, IsWaitBlocked, PendingsConflict}
 use Rattle.lock_server.specs.States.{State}
@@ -89,7 +89,7 @@ waits_lack : (server : LockServer) (file : ℕ) (before : List Pending) (wait : 
     → ((state_of server).files file).waits ≡ before ++ wait ∷ after → ¬ HasAlready ((state_of server).files file) wait
 unfolding state_of
 waits_lack server file before wait after place has = ∥∥₁_elim server.safe ⊥_prop
-    (λ safe. let F = (table_state server.table).files file in let policy = table_policy server.table in
+    (λ safe. let F = (table_state server.table).files file in let policy = server.rules.policy in
     blocked_lacks policy F before wait (safe.compatible file)
     (blocked_at policy F [] before wait after (subst (λ (ws : List Pending). AllBlocked policy F [] ws) place (safe.settled file))) has)
 

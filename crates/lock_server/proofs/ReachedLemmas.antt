@@ -20,7 +20,7 @@ use Rattle.lock_server.specs.declared.waiters.Waiters.{Waiters}
 use Rattle.lock_server.specs.Deadlock.{BlocksIn, ClosesCycle, IsBlockedByOwner, WaitsFor, WaitsForOn}
 use Rattle.lock_server.specs.Files.{FileState, untouched}
 use Rattle.lock_server.specs.Index.{IsIndexed, detected_waits, state_in}
-use Rattle.lock_server.specs.TableView.{entry_of, table_policy, table_state}
+use Rattle.lock_server.specs.TableView.{entry_of, table_state}
 use Rattle.std.specs.BTreeMap.{BTreeMap}
 use Rattle.lock_server.specs.Blockers.{AddsGoingOn, AddsOnce, AddsOwners, IsGoingOn, SomeLeadsTo}
 use Rattle.lock_server.specs.WaitersView.{files_of, times}
@@ -149,26 +149,26 @@ waits_goes_on policy files tickets waiters known target owner file other step =
     let among = file_of_step policy files tickets waiters known owner file other step in
     inr (λ none. let empty : length (files_of waiters owner) ≡ 0 = ap (λ (fs : List ℕ). length fs) none in let within = among.1 in omega arith)
 
-module _ (table : Table) where
+module _ (policy : Policy) (table : Table) where
   -- the files of an owner gave all for which it waits
   pub all_files : (owner : ℕ) (old new : List ℕ) (i : ℕ) → length (files_of table.waiters owner) ≤ i
       → AddsOwners old new (IsGivenBefore
-      (λ place file other. WaitsForOn table.policy (state_in table.files file) owner other) (files_of table.waiters owner) i)
-      → AddsOwners old new (WaitsFor (table_policy table) (table_state table) owner)
-  unfolding table_policy table_state entry_of
+      (λ place file other. WaitsForOn policy (state_in table.files file) owner other) (files_of table.waiters owner) i)
+      → AddsOwners old new (WaitsFor policy (table_state table) owner)
+  unfolding table_state entry_of
   all_files owner old new i past adds =
-      gathered_all (λ place file other. WaitsForOn table.policy (state_in table.files file) owner other) (files_of table.waiters owner) old new i
-      (WaitsFor (table_policy table) (table_state table) owner) past (λ other place file at step. record { file = file; on_file = step })
+      gathered_all (λ place file other. WaitsForOn policy (state_in table.files file) owner other) (files_of table.waiters owner) old new i
+      (WaitsFor policy (table_state table) owner) past (λ other place file at step. record { file = file; on_file = step })
       (λ other step.
-      let among = file_of_step table.policy table.files table.tickets table.waiters table.indexed owner step.file other step.on_file in
+      let among = file_of_step policy table.files table.tickets table.waiters table.indexed owner step.file other step.on_file in
       (among.0, step.file, slice_get-get_or (files_of table.waiters owner) among.0 step.file among.1 ∙ ap (λ (n : ℕ). Some n) among.2, step.on_file))
       adds
 
   -- an owner that waits for another goes on
-  pub step_goes_on : (target one other : ℕ) → WaitsFor (table_policy table) (table_state table) one other → IsGoingOn table.waiters target one
-  unfolding table_policy table_state entry_of
+  pub step_goes_on : (target one other : ℕ) → WaitsFor policy (table_state table) one other → IsGoingOn table.waiters target one
+  unfolding table_state entry_of
   step_goes_on target one other step =
-      waits_goes_on table.policy table.files table.tickets table.waiters table.indexed target one step.file other step.on_file
+      waits_goes_on policy table.files table.tickets table.waiters table.indexed target one step.file other step.on_file
 
 -- nobody waits on an untouched file
 pub no_step_there : (policy : Policy) (one other : ℕ) → ¬ WaitsForOn policy untouched one other
@@ -184,12 +184,12 @@ pub another_blocks : (policy : Policy) (F : FileState) (earlier : List Pending) 
 another_blocks policy F earlier wait other h = grind (arith, common_steps, blocks_in_another)
 
 -- some owner that was reached from those that block the wait leads to its own, just where the wait closes a cycle
-pub closes_cycle : (table : Table) (file : ℕ) (wanted : Pending) (blockers reached : List ℕ) (answer : Bool)
-    → AddsOwners [] blockers (IsBlockedByOwner (table_policy table) ((table_state table).files file) ((table_state table).files file).waits wanted)
+pub closes_cycle : (policy : Policy) (table : Table) (file : ℕ) (wanted : Pending) (blockers reached : List ℕ) (answer : Bool)
+    → AddsOwners [] blockers (IsBlockedByOwner policy ((table_state table).files file) ((table_state table).files file).waits wanted)
     → AddsGoingOn table.waiters wanted.owner (Contains blockers) [] reached
-    → IsTrue answer ↔ SomeLeadsTo (table_policy table) (table_state table) reached wanted.owner
-    → IsTrue answer ↔ ClosesCycle (table_policy table) (table_state table) file wanted
-closes_cycle table file wanted blockers reached answer adds going says = (
+    → IsTrue answer ↔ SomeLeadsTo policy (table_state table) reached wanted.owner
+    → IsTrue answer ↔ ClosesCycle policy (table_state table) file wanted
+closes_cycle policy table file wanted blockers reached answer adds going says = (
   λ yes. to_cycle (says.0 yes),
   λ cycle. says.1 (record { owner = cycle.blocker; among = in_reached cycle; leads = inr cycle.led }),
 )
@@ -197,21 +197,21 @@ closes_cycle table file wanted blockers reached answer adds going says = (
     nothing : (other : ℕ) → ¬ Contains [] other
     nothing other among = let within : among.0 < 0 = among.1 in omega arith
 
-    among : (some : SomeLeadsTo (table_policy table) (table_state table) reached wanted.owner) → Contains blockers some.owner
+    among : (some : SomeLeadsTo policy (table_state table) reached wanted.owner) → Contains blockers some.owner
     among some = elim (going.adds.only some.owner some.among) [ inl none ↦ absurd (nothing some.owner none) | inr here ↦ here.0 ]
 
-    to_cycle : SomeLeadsTo (table_policy table) (table_state table) reached wanted.owner → ClosesCycle (table_policy table) (table_state table) file wanted
+    to_cycle : SomeLeadsTo policy (table_state table) reached wanted.owner → ClosesCycle policy (table_state table) file wanted
     to_cycle some =
-        let blocked : IsBlockedByOwner (table_policy table) ((table_state table).files file) ((table_state table).files file).waits wanted some.owner = elim (adds.only some.owner (among some)) [
+        let blocked : IsBlockedByOwner policy ((table_state table).files file) ((table_state table).files file).waits wanted some.owner = elim (adds.only some.owner (among some)) [
           | inl none ↦ absurd (nothing some.owner none)
           | inr blocks ↦ blocks
         ] in
         elim some.leads [
-          | inl same ↦ absurd (another_blocks (table_policy table) ((table_state table).files file) ((table_state table).files file).waits wanted some.owner blocked same)
+          | inl same ↦ absurd (another_blocks policy ((table_state table).files file) ((table_state table).files file).waits wanted some.owner blocked same)
           | inr led ↦ record { blocker = some.owner; blocked = blocked; led = led }
         ]
 
-    in_reached : (cycle : ClosesCycle (table_policy table) (table_state table) file wanted) → Contains reached cycle.blocker
+    in_reached : (cycle : ClosesCycle policy (table_state table) file wanted) → Contains reached cycle.blocker
     in_reached cycle =
-        let on = first_step (WaitsFor (table_policy table) (table_state table)) cycle.blocker cycle.led.0 wanted.owner cycle.led.1 in
-        going.adds.added cycle.blocker (adds.added cycle.blocker cycle.blocked, step_goes_on table wanted.owner cycle.blocker on.0 on.1)
+        let on = first_step (WaitsFor policy (table_state table)) cycle.blocker cycle.led.0 wanted.owner cycle.led.1 in
+        going.adds.added cycle.blocker (adds.added cycle.blocker cycle.blocked, step_goes_on policy table wanted.owner cycle.blocker on.0 on.1)

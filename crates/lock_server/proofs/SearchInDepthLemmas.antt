@@ -20,7 +20,7 @@ use Rattle.lock_server.specs.Searching.{ComesTo, GoesOn, IsAhead, IsSearchedInDe
 use Rattle.lock_server.specs.States.{State}
 use Rattle.lock_server.proofs.ChainLemmas.{chain_append}
 use Rattle.lock_server.specs.declared.table.Table.{Table}
-use Rattle.lock_server.specs.TableView.{table_policy, table_state}
+use Rattle.lock_server.specs.TableView.{table_state}
 use Rattle.lock_server.specs.WaitersView.{crossed_of, files_of}
 use Rattle.lock_server.proofs.ReachedLemmas.{step_goes_on}
 use Rattle.lock_server.proofs.TicketLemmas.{is_at-other}
@@ -193,11 +193,11 @@ no_items [] none = refl
 no_items (x ∷ xs) none = absurd (omega (arith, none))
 
 -- an owner with a step has a detected wait, and isn't crossed
-pub step_from : (table : Table) (owner next : ℕ) → WaitsUncrossed (table_policy table) (table_state table) owner next
+pub step_from : (policy : Policy) (table : Table) (owner next : ℕ) → WaitsUncrossed policy (table_state table) owner next
     → (files_of table.waiters owner ≢ []) × (crossed_of table.waiters owner ≡ false)
 unfolding table_state
-step_from table owner next step = (
-  elim (step_goes_on table (owner + 1) owner next step.0) [ inl is ↦ absurd (omega (arith, is)) | inr some ↦ some ],
+step_from policy table owner next step = (
+  elim (step_goes_on policy table (owner + 1) owner next step.0) [ inl is ↦ absurd (omega (arith, is)) | inr some ↦ some ],
   elim (cases_Bool (crossed_of table.waiters owner)) [ inl crossed ↦ absurd (step.1 crossed) | inr none ↦ none ],
 )
 

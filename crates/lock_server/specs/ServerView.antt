@@ -4,7 +4,7 @@ use Rattle.lock_server.specs.declared.Rules.{Rules}
 use Rattle.lock_server.specs.declared.server.LockServer.{LockServer}
 use Rattle.lock_server.specs.Files.{SameFile, untouched}
 use Rattle.lock_server.specs.OpeningsView.{through_at}
-use Rattle.lock_server.specs.TableView.{HasEntry, table_state, table_policy}
+use Rattle.lock_server.specs.TableView.{HasEntry, table_state}
 use Rattle.lock_server.specs.Safety.{IsSafe}
 use Rattle.lock_server.specs.States.{State}
 
@@ -14,7 +14,7 @@ state_of server = table_state server.table
 
 -- the rules of a server
 unfoldable pub rules_of : LockServer → Rules
-rules_of server = record { policy = table_policy server.table; conversion = server.conversion }
+rules_of server = server.rules
 
 -- by file and owner: the open file through which the owner was last seen there, and not flushed since
 unfoldable pub through_of : LockServer → ℕ → ℕ → Option ℕ

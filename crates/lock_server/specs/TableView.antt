@@ -30,10 +30,6 @@ table_state table = record {
   crossed = crossed_of table.waiters;
 }
 
--- the policy of a table
-unfoldable pub table_policy : Table → Policy
-table_policy table = table.policy
-
 -- the file has no entry where it has neither a lock nor a wait
 abbrev pub IsSwept : Table → ℕ → Type 0
 IsSwept table file = SameFile ((table_state table).files file) untouched → ¬ HasEntry table file
@@ -51,8 +47,8 @@ abbrev pub KeepsEntries : Table → Table → Type 0
 KeepsEntries old new = (file : ℕ) → entry_of new file ≡ entry_of old file
 
 -- what holds between two calls holds afterwards, where it held before
-abbrev pub StaysSafe : Table → Table → Type 0
-StaysSafe old new = ∥ IsSafe (table_policy old) (table_state old) ∥₁ → ∥ IsSafe (table_policy new) (table_state new) ∥₁
+abbrev pub StaysSafe : Policy → Table → Table → Type 0
+StaysSafe policy old new = ∥ IsSafe policy (table_state old) ∥₁ → ∥ IsSafe policy (table_state new) ∥₁
 
 -- all waits leave the file, and none is granted
 pub record AllLeave (S : State) (file : ℕ) (T : State) : Type 0 where

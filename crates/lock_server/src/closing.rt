@@ -1,10 +1,10 @@
 //! The last close of an open file: the byte locks of the owners that were last seen through it go.
-ghost use Rattle.std.specs.Prelude.{◌≡◌, ◌==◌, ◌&&◌, if◌then◌else◌, None};
+ghost use Rattle.std.specs.Prelude.{◌==◌, ◌&&◌, if◌then◌else◌, None};
 ghost use Rattle.lock_server.specs.Closing.{ClosesOn, is_through};
 ghost use Rattle.lock_server.specs.HoldingsView.{AreKept};
 ghost use Rattle.lock_server.specs.Openings.{ForgetsThrough, is_number, SeesOn};
 ghost use Rattle.lock_server.specs.OpeningsView.{through_at};
-ghost use Rattle.lock_server.specs.TableView.{KeepsOthers, table_state, table_policy};
+ghost use Rattle.lock_server.specs.TableView.{KeepsOthers, table_state};
 
 use crate::holdings::Holdings;
 use crate::openings::Openings;
@@ -22,7 +22,6 @@ pub(crate) fn close(
     ensures closes { ClosesOn (table_state table.old) file (is_through (through_at openings.old file) open_file) None (table_state table.new) }
     ensures forgets { ForgetsThrough (through_at openings.old) (through_at openings.new) file open_file }
     ensures kept { AreKept holdings.old (table_state table.old) (through_at openings.old) → AreKept holdings.new (table_state table.new) (through_at openings.new) }
-    ensures policy { table_policy table.new ≡ table_policy table.old }
     ensures others { KeepsOthers table.old table.new file }
 {
     let mut above = None;
@@ -46,7 +45,6 @@ fn close_owner(
     ensures forgets { SeesOn (through_at openings.old) (through_at openings.new) file owner
         (if is_number open_file (through_at openings.old file owner) then None else through_at openings.old file owner) }
     ensures kept { AreKept holdings.old (table_state table.old) (through_at openings.old) → AreKept holdings.new (table_state table.new) (through_at openings.new) }
-    ensures policy { table_policy table.new ≡ table_policy table.old }
     ensures others { KeepsOthers table.old table.new file }
 {
     if openings.is_through(file, owner, open_file) {

@@ -1,7 +1,7 @@
 //! Which waits on a file a change may have freed: a settling asks no other.
 ghost use Rattle.std.specs.Prelude.{◌≡◌, ◌↔◌, ◌⊎◌, IsTrue};
 ghost use Rattle.lock_server.specs.Files.{FileState};
-ghost use Rattle.lock_server.specs.Freed.{FreesBehind, IsAmong, IsKnown, Reaches, reach_of};
+ghost use Rattle.lock_server.specs.Freed.{FreesBehind, IsAmong, IsKnown, LeavingFrees, Reaches, reach_of};
 
 use crate::blocking::meet;
 use crate::{Family, Mode, Pending, Policy, Span};
@@ -104,6 +104,16 @@ impl Reach {
 }
 
 impl Freed {
+    /// Which waits on its file a wait may free that leaves: where waits are queued, those that may have stood behind it.
+    pub fn by_leaving(policy: Policy, wait: &Pending) -> Freed
+        ensures { LeavingFrees policy wait.now result }
+    {
+        match policy {
+            Policy::Held => Freed::Nobody,
+            Policy::Queue => Freed::Meeting(Reach::of(wait)),
+        }
+    }
+
     /// Whether the wait is among them.
     pub fn contains(self, wait: &Pending) -> bool
         ensures { IsTrue result ↔ IsAmong self wait.now }

@@ -4,7 +4,7 @@ ghost use Rattle.lock_server.specs.Calls.{byte_request as byte_request_of, flock
 ghost use Rattle.lock_server.specs.HoldingsView.{AreKept};
 ghost use Rattle.lock_server.specs.OpeningsView.{through_at};
 ghost use Rattle.lock_server.specs.Safety.{IsSafe};
-ghost use Rattle.lock_server.specs.TableView.{AreSwept, table_state, table_policy};
+ghost use Rattle.lock_server.specs.TableView.{AreSwept, table_state};
 
 mod clients;
 mod export;
@@ -12,13 +12,14 @@ mod forgetting;
 mod import;
 mod listing;
 
+use crate::freed::Freed;
 use crate::holdings::Holdings;
 use crate::openings::Openings;
 use crate::requests::{NO_TICKET, byte_request, flock_request};
 use crate::table::Table;
 use crate::{
-    Answer, Conversion, Family, Lock, Memory, Mode, Pending, Rules, Span, WaitAnswer, WaitFault,
-    closing, converting,
+    Answer, Family, Lock, Memory, Mode, Pending, Rules, Span, WaitAnswer, WaitFault, closing,
+    converting,
 };
 use std::alloc::Global;
 
@@ -29,8 +30,8 @@ pub struct LockServer {
     table: Table,
     openings: Openings,
     holdings: Holdings,
-    conversion: Conversion,
-    ghost safe: { ∥ IsSafe (table_policy table) (table_state table) ∥₁ },
+    rules: Rules,
+    ghost safe: { ∥ IsSafe rules.policy (table_state table) ∥₁ },
     ghost swept: { AreSwept table },
     ghost kept: { AreKept holdings (table_state table) (through_at openings) },
 }
@@ -55,10 +56,10 @@ impl LockServer {
         ensures openings { (file owner : ℕ) → through_of result file owner ≡ None }
     {
         LockServer {
-            table: Table::new(alloc, rules.policy),
+            table: Table::new(alloc),
             openings: Openings::new(alloc),
             holdings: Holdings::new(alloc),
-            conversion: rules.conversion,
+            rules,
         }
     }
 
@@ -95,10 +96,11 @@ impl LockServer {
         if self.is_held_back(file, owner, span, mode) {
             return Ok(Answer::Blocked);
         }
-        let freed = self.table.freed_by_set(file, owner, span, mode);
+        let policy = self.rules.policy;
+        let freed = self.table.freed_by_set(policy, file, owner, span, mode);
         self.holdings
             .set(&mut self.table, &self.openings, file, owner, span, mode)?;
-        self.table.settle_among(file, freed);
+        self.table.settle_among(policy, file, freed);
         self.table.sweep(file);
         self.holdings.tidy(&self.table, &self.openings, owner, file);
         Ok(Answer::Done)
@@ -130,9 +132,12 @@ impl LockServer {
         if self.table.is_taken(ticket) {
             return Err(WaitFault::TicketTaken);
         }
+        let policy = self.rules.policy;
         let wanted = byte_request(ticket, owner, span, mode, detect);
-        if !self.table.blocks(file, &wanted) {
-            let freed = self.table.freed_by_set(file, owner, span, Some(mode));
+        if !self.table.blocks(policy, file, &wanted) {
+            let freed = self
+                .table
+                .freed_by_set(policy, file, owner, span, Some(mode));
             self.holdings.set(
                 &mut self.table,
                 &self.openings,
@@ -141,7 +146,7 @@ impl LockServer {
                 span,
                 Some(mode),
             )?;
-            self.table.settle_among(file, freed);
+            self.table.settle_among(policy, file, freed);
             return Ok(WaitAnswer::Done);
         }
         if self.closes_cycle(file, &wanted)? {
@@ -162,8 +167,8 @@ impl LockServer {
     {
         match self.table.cancel(ticket) {
             Some((file, wait)) => {
-                let freed = self.table.freed_by_leaving(&wait);
-                self.table.settle_among(file, freed);
+                let freed = Freed::by_leaving(self.rules.policy, &wait);
+                self.table.settle_among(self.rules.policy, file, freed);
                 self.table.sweep(file);
                 self.holdings
                     .tidy(&self.table, &self.openings, wait.owner, file);
@@ -202,7 +207,7 @@ impl LockServer {
     {
         let freed = self.table.freed_by_release(file, owner);
         self.table.release(file, owner);
-        self.table.settle_among(file, freed);
+        self.table.settle_among(self.rules.policy, file, freed);
         self.table.sweep(file);
         self.openings.forget(file, owner);
         self.holdings.tidy(&self.table, &self.openings, owner, file);
@@ -231,8 +236,7 @@ impl LockServer {
         }
         self.holdings
             .place_flock(&mut self.table, &self.openings, file, owner)?;
-        let conversion = self.conversion;
-        let answer = converting::flock(&mut self.table, conversion, file, owner, held, mode);
+        let answer = converting::flock(&mut self.table, self.rules, file, owner, held, mode);
         self.holdings.tidy(&self.table, &self.openings, owner, file);
         Ok(answer)
     }
@@ -265,8 +269,7 @@ impl LockServer {
         let wanted = flock_request(ticket, owner, mode);
         self.holdings
             .reserve(&mut self.table, &self.openings, file, &wanted)?;
-        let conversion = self.conversion;
-        Ok(converting::flock_wait(&mut self.table, conversion, file, held, wanted))
+        Ok(converting::flock_wait(&mut self.table, self.rules, file, held, wanted))
     }
 
     /// Removes the flock lock of the owner on the file; its waits stay (flock(2), `LOCK_UN` and last close; FUSE, release with
@@ -279,7 +282,7 @@ impl LockServer {
     {
         let freed = self.table.freed_by_flock_release(file, owner);
         self.table.release_flock(file, owner);
-        self.table.settle_among(file, freed);
+        self.table.settle_among(self.rules.policy, file, freed);
         self.table.sweep(file);
         self.holdings.tidy(&self.table, &self.openings, owner, file);
     }
@@ -302,7 +305,7 @@ impl LockServer {
             file,
             open_file,
         );
-        self.table.settle(file);
+        self.table.settle(self.rules.policy, file);
         self.table.sweep(file);
         self.holdings
             .tidy_of(&self.table, &self.openings, flock_owner, file);
@@ -336,7 +339,7 @@ impl LockServer {
         ensures { IfOk result (λ cycle. IsTrue cycle ↔ IsRefused (rules_of self.now).policy (state_of self.now) file wanted.now) }
     {
         if wanted.detect {
-            self.table.would_cycle(file, wanted)
+            self.table.would_cycle(self.rules.policy, file, wanted)
         } else {
             Ok(false)
         }

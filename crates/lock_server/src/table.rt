@@ -19,7 +19,6 @@ mod restoring;
 mod settling;
 mod waiting;
 
-use crate::Policy;
 use crate::file::LockFile;
 use crate::tickets::Tickets;
 use crate::waiters::Waiters;
@@ -30,7 +29,6 @@ use std::collections::BTreeMap;
 /// moment, also inside a call.
 #[derive(Drop)]
 pub struct Table {
-    policy: Policy,
     alloc: Global,
     /// By file: those with a lock or a wait.
     files: BTreeMap<u64, LockFile>,
@@ -39,20 +37,17 @@ pub struct Table {
     ghost indexed: { IsIndexed files tickets waiters },
 }
 
-#[tactic(auto, unfolding(crate::specs::TableView::table_state, crate::specs::TableView::table_policy, crate::specs::TableView::entry_of, crate::specs::States::opening))]
+#[tactic(auto, unfolding(crate::specs::TableView::table_state, crate::specs::TableView::entry_of, crate::specs::States::opening))]
 impl Table {
-    ghost use Rattle.std.specs.Prelude.{◌≡◌};
     ghost use Rattle.lock_server.specs.States.{opening, SameState};
-    ghost use Rattle.lock_server.specs.TableView.{AreSwept, table_state, table_policy};
+    ghost use Rattle.lock_server.specs.TableView.{AreSwept, table_state};
 
     /// No lock and no wait. It takes no memory.
-    pub fn new(alloc: Global, policy: Policy) -> Table
+    pub fn new(alloc: Global) -> Table
         ensures opening { SameState opening (table_state result) }
-        ensures policy { table_policy result ≡ policy }
         ensures swept { AreSwept result }
     {
         Table {
-            policy,
             alloc,
             files: BTreeMap::new(alloc),
             tickets: Tickets::new(alloc),

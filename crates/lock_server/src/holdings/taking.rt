@@ -6,7 +6,7 @@ ghost use Rattle.lock_server.specs.HoldingsView.{AreKept, keeps};
 ghost use Rattle.lock_server.specs.OpeningsView.{through_at};
 ghost use Rattle.lock_server.specs.States.{IsTaken, SameState};
 ghost use Rattle.lock_server.specs.TableRoom.{HasFlockPlace, HasRoomFor};
-ghost use Rattle.lock_server.specs.TableView.{IsSwept, KeepsOthers, table_state, table_policy};
+ghost use Rattle.lock_server.specs.TableView.{IsSwept, KeepsOthers, table_state};
 
 use super::Holdings;
 use crate::openings::Openings;
@@ -32,7 +32,6 @@ impl Holdings {
         ensures unlock { mode ≡ None → (¬ SplitsRun (((table_state table.old).files file).bytes owner) span) → IsOk result }
         ensures err { OnErr result (SameState (table_state table.old) (table_state table.new)) }
         ensures kept { AreKept self.old (table_state table.old) (through_at openings.now) → AreKept self.new (table_state table.new) (through_at openings.now) }
-        ensures policy { table_policy table.new ≡ table_policy table.old }
         ensures swept { OnErr result (IsSwept table.old file → IsSwept table.new file) }
         ensures others { KeepsOthers table.old table.new file }
     {
@@ -62,7 +61,6 @@ impl Holdings {
         ensures ok { OnOk result (HasRoomFor table.new file wanted.now) }
         ensures entered { OnOk result (keeps self.new wanted.now.owner file ≡ true) }
         ensures kept { AreKept self.old (table_state table.old) (through_at openings.now) → AreKept self.new (table_state table.new) (through_at openings.now) }
-        ensures policy { table_policy table.new ≡ table_policy table.old }
         ensures swept { OnErr result (IsSwept table.old file → IsSwept table.new file) }
         ensures others { KeepsOthers table.old table.new file }
     {
@@ -90,7 +88,6 @@ impl Holdings {
         ensures ok { OnOk result (HasFlockPlace table.new file owner) }
         ensures entered { OnOk result (keeps self.new owner file ≡ true) }
         ensures kept { AreKept self.old (table_state table.old) (through_at openings.now) → AreKept self.new (table_state table.new) (through_at openings.now) }
-        ensures policy { table_policy table.new ≡ table_policy table.old }
         ensures swept { OnErr result (IsSwept table.old file → IsSwept table.new file) }
         ensures others { KeepsOthers table.old table.new file }
     {

@@ -8,7 +8,7 @@ ghost use Rattle.lock_server.specs.Reading.{Always, Succeeds};
 ghost use Rattle.lock_server.specs.Restoring.{AreCompatible, AreSettled, QueuesEach};
 ghost use Rattle.lock_server.specs.Safety.{AreTicketsOnce, IsSafe};
 ghost use Rattle.lock_server.specs.States.{SameState, State, opening};
-ghost use Rattle.lock_server.specs.TableView.{AreSwept, KeepsEntries, table_policy, table_state};
+ghost use Rattle.lock_server.specs.TableView.{AreSwept, KeepsEntries, table_state};
 
 use super::fault;
 use super::parts::Parts;
@@ -20,12 +20,11 @@ use std::alloc::Global;
 impl Parts {
     /// The table that the parts tell of.
     pub fn table(&self, alloc: Global) -> Result<Table, ImportFault>
-        ensures safe { IfOk result (λ table. ∥ IsSafe (table_policy table) (table_state table) ∥₁) }
+        ensures safe { IfOk result (λ table. ∥ IsSafe self.now.rules.policy (table_state table) ∥₁) }
         ensures swept { IfOk result AreSwept }
-        ensures policy { IfOk result (λ table. table_policy table ≡ self.now.rules.policy) }
         ensures again { (S : State) → AreOf S self.now → Succeeds result (λ table. SameState S (table_state table)) }
     {
-        let mut table = Table::new(alloc, self.rules.policy);
+        let mut table = Table::new(alloc);
         self.put_locks(&mut table)?;
         self.put_waits(&mut table)?;
         self.put_grants(&mut table)?;
@@ -53,7 +52,6 @@ impl Parts {
         ensures sets { OnOk result (SetsAll (table_state table.old) self.now.files.items (table_state table.new)) }
         ensures again { (S : State) → AreFilesOf S self.now.files.items → AreCompatible S → SameState opening (table_state table.old)
             → Succeeds result Always }
-        ensures policy { table_policy table.new ≡ table_policy table.old }
         ensures swept { AreSwept table.old → AreSwept table.new }
     {
         for (i, file) in self.files.iter().enumerate() {
@@ -72,7 +70,6 @@ impl Parts {
         ensures joins { OnOk result (JoinsAll (table_state table.old) self.now.files.items (table_state table.new)) }
         ensures again { (S : State) → AreFilesOf S self.now.files.items → AreTicketsOnce S → HasLocksAlone (table_state table.old)
             → Succeeds result Always }
-        ensures policy { table_policy table.new ≡ table_policy table.old }
         ensures swept { AreSwept table.old → AreSwept table.new }
     {
         for (i, file) in self.files.iter().enumerate() {
@@ -88,7 +85,6 @@ impl Parts {
         ensures queues { OnOk result (QueuesEach (table_state table.old) self.now.grants.items (table_state table.new)) }
         ensures again { (S : State) → self.now.grants.items ≡ S.grants → AreTicketsOnce S → HasWaitsOf S (table_state table.old)
             → Succeeds result Always }
-        ensures policy { table_policy table.new ≡ table_policy table.old }
         ensures entries { KeepsEntries table.old table.new }
     {
         match table.restore_grants(&self.grants)? {
@@ -99,10 +95,10 @@ impl Parts {
 
     /// Whether each wait is blocked.
     fn check_waits(&self, table: &Table) -> Result<(), ImportFault>
-        ensures settled { OnOk result (AreSettled (table_policy table.now) (table_state table.now)) }
-        ensures again { AreSettled (table_policy table.now) (table_state table.now) → Succeeds result Always }
+        ensures settled { OnOk result (AreSettled self.now.rules.policy (table_state table.now)) }
+        ensures again { AreSettled self.now.rules.policy (table_state table.now) → Succeeds result Always }
     {
-        let Some((number, place)) = table.first_ready() else {
+        let Some((number, place)) = table.first_ready(self.rules.policy) else {
             return Ok(());
         };
         Err(self.fault_on_wait(Flaw::Unblocked, number, place))
@@ -110,10 +106,10 @@ impl Parts {
 
     /// Whether no owner that isn't crossed waits for itself, by way of such.
     fn check_cycles(&self, table: &Table) -> Result<(), ImportFault>
-        ensures free { OnOk result (IsFreeOfCycles (table_policy table.now) (table_state table.now)) }
-        ensures again { IsFreeOfCycles (table_policy table.now) (table_state table.now) → Succeeds result Always }
+        ensures free { OnOk result (IsFreeOfCycles self.now.rules.policy (table_state table.now)) }
+        ensures again { IsFreeOfCycles self.now.rules.policy (table_state table.now) → Succeeds result Always }
     {
-        match table.owner_on_cycle()? {
+        match table.owner_on_cycle(self.rules.policy)? {
             Some(owner) => Err(self.fault_of_waiter(owner)),
             None => Ok(()),
         }

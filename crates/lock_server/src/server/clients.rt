@@ -25,7 +25,7 @@ impl LockServer {
         ensures openings { ForgetsSeen (through_of self.old) (through_of self.new) (is_within first last) }
     {
         let owners = Owners { first, last };
-        self.table.forget_owners(owners);
+        self.table.forget_owners(self.rules.policy, owners);
         self.openings.forget_owners(owners);
         self.holdings.leave_all(owners);
     }

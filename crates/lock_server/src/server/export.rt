@@ -52,8 +52,8 @@ impl LockServer {
     fn put_rules(&self, out: &mut [u8], at: usize) -> usize
         ensures { Puts (version ∷ rules_words (rules_of self.now)) out.old at out.new result }
     {
-        let policy = words::policy_word(self.table.policy());
-        let conversion = words::conversion_word(self.conversion);
+        let policy = words::policy_word(self.rules.policy);
+        let conversion = words::conversion_word(self.rules.conversion);
         words::put_all(out, at, &[VERSION, policy, conversion])
     }
 }

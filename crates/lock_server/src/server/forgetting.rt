@@ -30,7 +30,7 @@ impl LockServer {
         ensures openings { SeesOn (through_of self.old) (through_of self.new) file owner None }
     {
         self.table.dismiss(file, owner);
-        self.table.settle(file);
+        self.table.settle(self.rules.policy, file);
         self.table.sweep(file);
         self.openings.forget(file, owner);
         self.holdings.tidy(&self.table, &self.openings, owner, file);

@@ -28,7 +28,7 @@ impl LockServer {
             table,
             openings,
             holdings,
-            conversion: parts.rules.conversion,
+            rules: parts.rules,
         };
         if server.has_export(alloc, bytes)? {
             Ok(server)

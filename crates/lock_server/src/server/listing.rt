@@ -38,7 +38,7 @@ impl LockServer {
         ensures some { IfSome result (IsWaitAt (rules_of self.now).policy ((state_of self.now).files file) place) }
         ensures none { IfNone result (length ((state_of self.now).files file).waits ≤ place) }
     {
-        self.table.wait_at(file, place)
+        self.table.wait_at(self.rules.policy, file, place)
     }
 
     /// The first of the waits of owners up to the last, by owner, then by file, and then by ticket, from this one on (this project's

@@ -7,14 +7,14 @@ ghost use Rattle.lock_server.specs.Leaving.{is_leaving, is_staying};
 ghost use Rattle.lock_server.specs.Locks.{IsFirstLock, IsInTheWay};
 ghost use Rattle.lock_server.specs.Settling.{IsHeldBack};
 ghost use Rattle.lock_server.specs.States.{SameState};
-ghost use Rattle.lock_server.specs.TableView.{HasEntry, IsSwept, KeepsOthers, table_state, table_policy};
+ghost use Rattle.lock_server.specs.TableView.{HasEntry, IsSwept, KeepsOthers, table_state};
 
 use super::Table;
 use crate::leaving::Leaving;
 use crate::{Family, Lock, Memory, Mode, Pending, Span};
 use std::ops::Bound;
 
-#[tactic(auto, unfolding(crate::specs::TableView::table_state, crate::specs::TableView::table_policy, crate::specs::TableView::entry_of))]
+#[tactic(auto, unfolding(crate::specs::TableView::table_state, crate::specs::TableView::entry_of))]
 impl Table {
     /// The first lock of another owner that is in the way (POSIX.1-2017 fcntl, `F_GETLK`).
     pub fn blocker(&self, file: u64, owner: u64, span: Span, mode: Mode) -> Option<Lock>
@@ -39,7 +39,6 @@ impl Table {
         ensures ok { OnOk result (SetsOn (table_state self.old) file Family.Bytes owner span mode (table_state self.new)) }
         ensures unlock { mode ≡ None → (¬ SplitsRun (((table_state self.old).files file).bytes owner) span) → IsOk result }
         ensures err { OnErr result (SameState (table_state self.old) (table_state self.new)) }
-        ensures policy { table_policy self.new ≡ table_policy self.old }
         ensures swept { OnErr result (IsSwept self.old file → IsSwept self.new file) }
         ensures others { KeepsOthers self.old self.new file }
     {
@@ -70,7 +69,6 @@ impl Table {
         ensures ok { OnOk result (SetsOn (table_state self.old) file Family.Bytes owner span mode (table_state self.new)) }
         ensures unlock { mode ≡ None → (¬ SplitsRun (((table_state self.old).files file).bytes owner) span) → IsOk result }
         ensures err { OnErr result (SameState (table_state self.old) (table_state self.new)) }
-        ensures policy { table_policy self.new ≡ table_policy self.old }
         ensures others { KeepsOthers self.old self.new file }
     {
         let locks = self.files.get_mut(&file).unwrap();
@@ -82,7 +80,6 @@ impl Table {
     /// Removes all byte locks of the owner on the file; its waits stay. No wait is granted. It takes no memory.
     pub fn release(&mut self, file: u64, owner: u64)
         ensures releases { ReleasesOn (table_state self.old) file Family.Bytes owner (table_state self.new) }
-        ensures policy { table_policy self.new ≡ table_policy self.old }
         ensures others { KeepsOthers self.old self.new file }
     {
         if let Some(locks) = self.files.get_mut(&file) {
@@ -93,7 +90,6 @@ impl Table {
     /// Removes all byte locks of the owner on the file, and its waits for byte locks. No wait is granted. It takes no memory.
     pub fn dismiss(&mut self, file: u64, owner: u64)
         ensures forgets { ForgetsOn (table_state self.old) file owner (table_state self.new) }
-        ensures policy { table_policy self.new ≡ table_policy self.old }
         ensures others { KeepsOthers self.old self.new file }
     {
         // The waits go first: as long as one stands, the owner's room on the file stays at its release.
@@ -106,7 +102,6 @@ impl Table {
         ensures one { IsTrue result → DismissesOn (table_state self.old) file (is_leaving leaving) (table_state self.new) }
         ensures none { IsFalse result → All (λ wait. IsTrue (is_staying leaving wait)) ((table_state self.old).files file).waits
             × SameState (table_state self.old) (table_state self.new) }
-        ensures policy { table_policy self.new ≡ table_policy self.old }
         ensures others { KeepsOthers self.old self.new file }
     {
         let Some(locks) = self.files.get_mut(&file) else {

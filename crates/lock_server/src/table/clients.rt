@@ -1,28 +1,27 @@
 //! Clients and files that are gone.
 ghost use Rattle.std.specs.Prelude.{◌≡◌, ◌↔◌, [], IsTrue};
 ghost use Rattle.lock_server.specs.Clients.{ForgetsFile, ForgetsOwners, HaveLocks, HaveLocksOn, is_within, SettlesAll, Strips, StripsOn};
-ghost use Rattle.lock_server.specs.TableView.{AllLeave, AreSwept, HasEntry, KeepsOthers, StripsLocksOn, table_state, table_policy};
+ghost use Rattle.lock_server.specs.TableView.{AllLeave, AreSwept, HasEntry, KeepsOthers, StripsLocksOn, table_state};
 
 use super::Table;
+use crate::Policy;
 use crate::leaving::Leaving;
 use crate::owners::Owners;
 
-#[tactic(auto, unfolding(crate::specs::TableView::table_state, crate::specs::TableView::table_policy, crate::specs::TableView::entry_of))]
+#[tactic(auto, unfolding(crate::specs::TableView::table_state, crate::specs::TableView::entry_of))]
 impl Table {
     /// The locks and waits of the owners leave all files, and then each file is settled, the files rising. It takes no memory.
-    pub fn forget_owners(&mut self, owners: Owners)
-        ensures forgets { ForgetsOwners (table_policy self.old) (table_state self.old) owners.first owners.last (table_state self.new) }
-        ensures policy { table_policy self.new ≡ table_policy self.old }
+    pub fn forget_owners(&mut self, policy: Policy, owners: Owners)
+        ensures forgets { ForgetsOwners policy (table_state self.old) owners.first owners.last (table_state self.new) }
         ensures swept { AreSwept self.old → AreSwept self.new }
     {
         self.strip_all(owners);
-        self.settle_all();
+        self.settle_all(policy);
     }
 
     /// The locks and waits of the owners leave all files. No wait is granted.
     fn strip_all(&mut self, owners: Owners)
         ensures strips { Strips (table_state self.old) (is_within owners.first owners.last) (table_state self.new) }
-        ensures policy { table_policy self.new ≡ table_policy self.old }
         ensures swept { AreSwept self.old → AreSwept self.new }
     {
         let mut above = None;
@@ -36,7 +35,6 @@ impl Table {
     /// The locks and waits of the owners leave the file. No wait is granted.
     fn strip(&mut self, file: u64, owners: Owners)
         ensures strips { StripsOn (table_state self.old) file (is_within owners.first owners.last) (table_state self.new) }
-        ensures policy { table_policy self.new ≡ table_policy self.old }
         ensures others { KeepsOthers self.old self.new file }
     {
         // The waits go first: as long as one stands, the owner's room on the file stays.
@@ -47,7 +45,6 @@ impl Table {
     /// The locks of the owners leave the file; their waits stay. No wait is granted.
     fn strip_locks(&mut self, file: u64, owners: Owners)
         ensures strips { StripsLocksOn (table_state self.old) file (is_within owners.first owners.last) (table_state self.new) }
-        ensures policy { table_policy self.new ≡ table_policy self.old }
         ensures others { KeepsOthers self.old self.new file }
     {
         if let Some(locks) = self.files.get_mut(&file) {
@@ -56,25 +53,23 @@ impl Table {
     }
 
     /// Each file is settled, the files rising.
-    fn settle_all(&mut self)
-        ensures settles { SettlesAll (table_policy self.old) (table_state self.old) (table_state self.new) }
-        ensures policy { table_policy self.new ≡ table_policy self.old }
+    fn settle_all(&mut self, policy: Policy)
+        ensures settles { SettlesAll policy (table_state self.old) (table_state self.new) }
         ensures swept { AreSwept self.old → AreSwept self.new }
     {
         let mut above = None;
         while let Some(file) = self.next_file(above) {
-            self.settle(file);
+            self.settle(policy, file);
             self.sweep(file);
             above = Some(file);
         }
     }
 
     /// All locks and waits leave the file, and its entry goes. No wait is granted. It takes no memory.
-    #[tactic(auto, using(crate::proofs::ClientLemmas::file_forgotten), unfolding(crate::specs::TableView::table_state, crate::specs::TableView::table_policy, crate::specs::TableView::entry_of))]
+    #[tactic(auto, using(crate::proofs::ClientLemmas::file_forgotten), unfolding(crate::specs::TableView::table_state, crate::specs::TableView::entry_of))]
     pub fn forget_file(&mut self, file: u64)
         ensures forgets { ForgetsFile (table_state self.old) file (table_state self.new) }
         ensures gone { ¬ HasEntry self.new file }
-        ensures policy { table_policy self.new ≡ table_policy self.old }
         ensures others { KeepsOthers self.old self.new file }
     {
         self.dismiss_all(file);
@@ -84,7 +79,6 @@ impl Table {
     /// All waits leave the file; its locks stay. No wait is granted.
     fn dismiss_all(&mut self, file: u64)
         ensures leave { AllLeave (table_state self.old) file (table_state self.new) }
-        ensures policy { table_policy self.new ≡ table_policy self.old }
         ensures others { KeepsOthers self.old self.new file }
     {
         while self.dismiss_one(file, Leaving::All) {}
@@ -95,7 +89,6 @@ impl Table {
         requires { ((table_state self.old).files file).waits ≡ [] }
         ensures forgets { ForgetsFile (table_state self.old) file (table_state self.new) }
         ensures gone { ¬ HasEntry self.new file }
-        ensures policy { table_policy self.new ≡ table_policy self.old }
         ensures others { KeepsOthers self.old self.new file }
     {
         self.files.remove(&file);

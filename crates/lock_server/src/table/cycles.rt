@@ -5,10 +5,10 @@ ghost use Rattle.std.specs.Ordering.{nat_cmp};
 ghost use Rattle.lock_server.specs.Deadlock.{IsFreeOfCycles};
 ghost use Rattle.lock_server.specs.Restoring.{IsOnCycle};
 ghost use Rattle.lock_server.specs.Searching.{ComesTo, GoesOn, IsAhead, IsTurn};
-ghost use Rattle.lock_server.specs.TableView.{table_state, table_policy};
+ghost use Rattle.lock_server.specs.TableView.{table_state};
 
 use super::Table;
-use crate::Memory;
+use crate::{Memory, Policy};
 use std::collections::BTreeSet;
 
 /// How the search goes on from an owner.
@@ -71,13 +71,13 @@ impl Search {
     }
 }
 
-#[tactic(auto, unfolding(crate::specs::TableView::table_state, crate::specs::TableView::table_policy, crate::specs::TableView::entry_of))]
+#[tactic(auto, unfolding(crate::specs::TableView::table_state, crate::specs::TableView::entry_of))]
 impl Table {
     /// An owner that isn't crossed and waits for itself, by way of owners that aren't crossed; `None` where there is none (POSIX.1-2017
     /// fcntl, `EDEADLK`).
-    pub fn owner_on_cycle(&self) -> Result<Option<u64>, Memory>
-        ensures { IfOk result (λ found. MatchOption found (IsFreeOfCycles (table_policy self.now) (table_state self.now))
-            (IsOnCycle (table_policy self.now) (table_state self.now))) }
+    pub fn owner_on_cycle(&self, policy: Policy) -> Result<Option<u64>, Memory>
+        ensures { IfOk result (λ found. MatchOption found (IsFreeOfCycles policy (table_state self.now))
+            (IsOnCycle policy (table_state self.now))) }
     {
         let mut search = Search {
             untried: self.waiters.uncrossed()?,
@@ -85,7 +85,7 @@ impl Table {
         };
         while let Some(owner) = search.current()? {
             let mut owners = Vec::new(self.alloc);
-            self.add_steps(&mut owners, owner)?;
+            self.add_steps(&mut owners, policy, owner)?;
             match search.turn(&owners) {
                 Turn::Closed(owner) => return Ok(Some(owner)),
                 Turn::On(next) => search.go_on(next)?,

@@ -1,15 +1,15 @@
 //! The entries of files, and the tickets.
-ghost use Rattle.std.specs.Prelude.{◌≡◌, ◌↔◌, IsOk, IsTrue, OnErr, OnOk};
+ghost use Rattle.std.specs.Prelude.{◌↔◌, IsOk, IsTrue, OnErr, OnOk};
 ghost use Rattle.lock_server.specs.Calls.{FetchComesTo};
 ghost use Rattle.lock_server.specs.States.{IsTaken, SameState};
-ghost use Rattle.lock_server.specs.TableView.{HasEntry, IsSwept, KeepsEntries, KeepsOthers, table_state, table_policy};
+ghost use Rattle.lock_server.specs.TableView.{HasEntry, IsSwept, KeepsEntries, KeepsOthers, table_state};
 
 use super::Table;
 use crate::Memory;
 use crate::file::LockFile;
 use crate::tickets::Place;
 
-#[tactic(auto, unfolding(crate::specs::TableView::table_state, crate::specs::TableView::table_policy, crate::specs::TableView::entry_of))]
+#[tactic(auto, unfolding(crate::specs::TableView::table_state, crate::specs::TableView::entry_of))]
 impl Table {
     /// Whether a wait has the ticket, or a grant that was not fetched.
     pub fn is_taken(&self, ticket: u64) -> bool
@@ -31,7 +31,6 @@ impl Table {
         ensures same { SameState (table_state self.old) (table_state self.new) }
         ensures entry { OnOk result (HasEntry self.new file) }
         ensures there { HasEntry self.old file → IsOk result }
-        ensures policy { table_policy self.new ≡ table_policy self.old }
         ensures swept { OnErr result (IsSwept self.old file → IsSwept self.new file) }
         ensures others { KeepsOthers self.old self.new file }
     {
@@ -46,7 +45,6 @@ impl Table {
     pub fn sweep(&mut self, file: u64)
         ensures same { SameState (table_state self.old) (table_state self.new) }
         ensures gone { IsSwept self.new file }
-        ensures policy { table_policy self.new ≡ table_policy self.old }
         ensures others { KeepsOthers self.old self.new file }
     {
         let Some(locks) = self.files.get(&file) else {
@@ -60,7 +58,6 @@ impl Table {
     /// The ticket of the oldest grant, which is told once; `None` where there is none. It takes no memory.
     pub fn next_grant(&mut self) -> Option<u64>
         ensures fetched { FetchComesTo (table_state self.old) result (table_state self.new) }
-        ensures policy { table_policy self.new ≡ table_policy self.old }
         ensures entries { KeepsEntries self.old self.new }
     {
         self.tickets.fetch()

@@ -1,22 +1,15 @@
 //! The files, the grants and the crossed owners, as words.
-ghost use Rattle.std.specs.Prelude.{◌≡◌, IsTrue, [], ◌∷◌};
+ghost use Rattle.std.specs.Prelude.{IsTrue, [], ◌∷◌};
 ghost use Rattle.lock_server.specs.Bytes.{file_words, listed, number_words};
 ghost use Rattle.lock_server.specs.Inventory.{AreFiles, AreJust};
-ghost use Rattle.lock_server.specs.TableView.{AreSwept, table_policy, table_state};
+ghost use Rattle.lock_server.specs.TableView.{AreSwept, table_state};
 ghost use Rattle.lock_server.specs.Words.{Puts, PutsSome};
 
 use super::Table;
-use crate::{Policy, words};
+use crate::words;
 
-#[tactic(auto, unfolding(crate::specs::TableView::table_state, crate::specs::TableView::table_policy, crate::specs::TableView::entry_of))]
+#[tactic(auto, unfolding(crate::specs::TableView::table_state, crate::specs::TableView::entry_of))]
 impl Table {
-    /// The policy.
-    pub fn policy(&self) -> Policy
-        ensures { result ≡ table_policy self.now }
-    {
-        self.policy
-    }
-
     /// Puts how many files are in use, and these with what stands on them, by number.
     pub fn put_files(&self, out: &mut [u8], at: usize) -> usize
         requires { AreSwept self.now }

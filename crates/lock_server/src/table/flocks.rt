@@ -5,12 +5,12 @@ ghost use Rattle.lock_server.specs.Calls.{ReleasesOn, SetsOn};
 ghost use Rattle.lock_server.specs.Closing.{ClosesOn};
 ghost use Rattle.lock_server.specs.States.{SameState};
 ghost use Rattle.lock_server.specs.TableRoom.{HasFlockPlace, KeepsRoomOn};
-ghost use Rattle.lock_server.specs.TableView.{IsSwept, KeepsOthers, table_state, table_policy};
+ghost use Rattle.lock_server.specs.TableView.{IsSwept, KeepsOthers, table_state};
 
 use super::Table;
 use crate::{Family, Memory, Mode};
 
-#[tactic(auto, unfolding(crate::specs::TableView::table_state, crate::specs::TableView::table_policy, crate::specs::TableView::entry_of))]
+#[tactic(auto, unfolding(crate::specs::TableView::table_state, crate::specs::TableView::entry_of))]
 impl Table {
     /// The flock mode of the owner on the file (flock(2)).
     pub fn flock_mode(&self, file: u64, owner: u64) -> Option<Mode>
@@ -22,7 +22,6 @@ impl Table {
     /// Removes the flock lock of the owner on the file; its waits stay. No wait is granted. It takes no memory (flock(2)).
     pub fn release_flock(&mut self, file: u64, owner: u64)
         ensures releases { ReleasesOn (table_state self.old) file Family.Whole owner (table_state self.new) }
-        ensures policy { table_policy self.new ≡ table_policy self.old }
         ensures others { KeepsOthers self.old self.new file }
     {
         if let Some(locks) = self.files.get_mut(&file) {
@@ -33,7 +32,6 @@ impl Table {
     /// The same of the flock owner that is given, if any.
     pub fn release_flock_of(&mut self, file: u64, owner: Option<u64>)
         ensures closes { ClosesOn (table_state self.old) file (λ other. false) owner (table_state self.new) }
-        ensures policy { table_policy self.new ≡ table_policy self.old }
         ensures others { KeepsOthers self.old self.new file }
     {
         if let Some(owner) = owner {
@@ -47,7 +45,6 @@ impl Table {
     pub fn place_flock(&mut self, file: u64, owner: u64) -> Result<(), Memory>
         ensures same { SameState (table_state self.old) (table_state self.new) }
         ensures ok { OnOk result (HasFlockPlace self.new file owner) }
-        ensures policy { table_policy self.new ≡ table_policy self.old }
         ensures swept { OnErr result (IsSwept self.old file → IsSwept self.new file) }
         ensures others { KeepsOthers self.old self.new file }
     {
@@ -67,7 +64,6 @@ impl Table {
     pub fn give_back_place(&mut self, file: u64, owner: u64)
         ensures same { SameState (table_state self.old) (table_state self.new) }
         ensures gone { IsSwept self.new file }
-        ensures policy { table_policy self.new ≡ table_policy self.old }
         ensures others { KeepsOthers self.old self.new file }
     {
         if let Some(locks) = self.files.get_mut(&file) {
@@ -82,7 +78,6 @@ impl Table {
         requires { HasFlockPlace self.old file owner }
         ensures sets { SetsOn (table_state self.old) file Family.Whole owner whole_file mode (table_state self.new) }
         ensures room { KeepsRoomOn self.old self.new file }
-        ensures policy { table_policy self.new ≡ table_policy self.old }
         ensures others { KeepsOthers self.old self.new file }
     {
         let locks = self.files.get_mut(&file).unwrap();

@@ -6,28 +6,29 @@ ghost use Rattle.lock_server.specs.Blockers.{AddsOwners, BlocksOn, IsFlockHolder
 ghost use Rattle.lock_server.specs.Deadlock.{BlocksIn, IsBlockedByOwner, WaitsFor, WaitsForOn};
 ghost use Rattle.lock_server.specs.LookedAt.{AreTold, Follows};
 ghost use Rattle.lock_server.specs.Pendings.{as_wait};
-ghost use Rattle.lock_server.specs.TableView.{table_state, table_policy};
+ghost use Rattle.lock_server.specs.TableView.{table_state};
 
 use super::Table;
 use super::reached::Reached;
 use crate::asking::Kind;
 use crate::{Family, Memory, Mode, Pending, Policy, Span};
 
-#[tactic(auto, unfolding(crate::specs::TableView::table_state, crate::specs::TableView::table_policy, crate::specs::TableView::entry_of))]
+#[tactic(auto, unfolding(crate::specs::TableView::table_state, crate::specs::TableView::entry_of))]
 impl Table {
     /// Reaches those of the owners for which this one waits that go on.
     pub(super) fn follow(
         &self,
         reached: &mut Reached,
+        policy: Policy,
         target: u64,
         owner: u64,
     ) -> Result<(), Memory>
         requires told { AreTold self.now target reached.old }
         requires among { Contains reached.old.owners.items owner }
-        ensures { OnOk result (Follows self.now target (WaitsFor (table_policy self.now) (table_state self.now) owner) reached.old reached.new) }
+        ensures { OnOk result (Follows self.now target (WaitsFor policy (table_state self.now) owner) reached.old reached.new) }
     {
         for file in self.waiters.files(owner) {
-            self.follow_on(reached, target, *file, owner)?;
+            self.follow_on(reached, policy, target, *file, owner)?;
         }
         Ok(())
     }
@@ -36,17 +37,18 @@ impl Table {
     fn follow_on(
         &self,
         reached: &mut Reached,
+        policy: Policy,
         target: u64,
         file: u64,
         owner: u64,
     ) -> Result<(), Memory>
         requires told { AreTold self.now target reached.old }
         requires among { Contains reached.old.owners.items owner }
-        ensures { OnOk result (Follows self.now target (WaitsForOn (table_policy self.now) ((table_state self.now).files file) owner) reached.old reached.new) }
+        ensures { OnOk result (Follows self.now target (WaitsForOn policy ((table_state self.now).files file) owner) reached.old reached.new) }
     {
         let mut from = 0;
         while let Some(place) = self.next_detected(file, owner, from) {
-            self.follow_at(reached, target, file, place)?;
+            self.follow_at(reached, policy, target, file, place)?;
             from = place + 1;
         }
         Ok(())
@@ -56,6 +58,7 @@ impl Table {
     fn follow_at(
         &self,
         reached: &mut Reached,
+        policy: Policy,
         target: u64,
         file: u64,
         place: u64,
@@ -65,11 +68,11 @@ impl Table {
             → Contains reached.old.owners.items wait.owner }
         ensures { (wait : Pending) → slice_get ((table_state self.now).files file).waits place ≡ Some wait
             → OnOk result (Follows self.now target
-            (IsBlockedByOwner (table_policy self.now) ((table_state self.now).files file) (take place ((table_state self.now).files file).waits) wait)
+            (IsBlockedByOwner policy ((table_state self.now).files file) (take place ((table_state self.now).files file).waits) wait)
             reached.old reached.new) }
     {
         match self.wait_on(file, place) {
-            Some(wait) => self.follow_wait(reached, target, file, place, &wait),
+            Some(wait) => self.follow_wait(reached, policy, target, file, place, &wait),
             None => Ok(()),
         }
     }
@@ -96,6 +99,7 @@ impl Table {
     fn follow_wait(
         &self,
         reached: &mut Reached,
+        policy: Policy,
         target: u64,
         file: u64,
         before: u64,
@@ -105,11 +109,11 @@ impl Table {
         requires told { AreTold self.now target reached.old }
         requires among { Contains reached.old.owners.items wait.now.owner }
         ensures { OnOk result (Follows self.now target
-            (IsBlockedByOwner (table_policy self.now) ((table_state self.now).files file) (take before ((table_state self.now).files file).waits) wait.now)
+            (IsBlockedByOwner policy ((table_state self.now).files file) (take before ((table_state self.now).files file).waits) wait.now)
             reached.old reached.new) }
     {
         self.follow_holders(reached, target, file, wait)?;
-        match self.policy {
+        match policy {
             Policy::Held => Ok(()),
             Policy::Queue => self.follow_earlier(reached, target, file, before, wait),
         }

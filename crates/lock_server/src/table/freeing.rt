@@ -2,29 +2,36 @@
 ghost use Rattle.std.specs.Prelude.{None};
 ghost use Rattle.range_core.specs.Ranges.{IsByteRange};
 ghost use Rattle.lock_server.specs.Files.{ClearsBytes, SetsFlock};
-ghost use Rattle.lock_server.specs.Freed.{Frees, LeavingFrees, SetFrees};
-ghost use Rattle.lock_server.specs.TableView.{table_state, table_policy};
+ghost use Rattle.lock_server.specs.Freed.{Frees, SetFrees};
+ghost use Rattle.lock_server.specs.TableView.{table_state};
 
 use super::Table;
-use crate::freed::{Freed, Reach};
-use crate::{Mode, Pending, Policy, Span};
+use crate::freed::Freed;
+use crate::{Mode, Policy, Span};
 
-#[tactic(auto, unfolding(crate::specs::TableView::table_state, crate::specs::TableView::table_policy, crate::specs::TableView::entry_of))]
+#[tactic(auto, unfolding(crate::specs::TableView::table_state, crate::specs::TableView::entry_of))]
 impl Table {
     /// Which waits on the file a set of the owner's mode on the span, or an unlock, may free.
-    pub fn freed_by_set(&self, file: u64, owner: u64, span: Span, mode: Option<Mode>) -> Freed
+    pub fn freed_by_set(
+        &self,
+        policy: Policy,
+        file: u64,
+        owner: u64,
+        span: Span,
+        mode: Option<Mode>,
+    ) -> Freed
         requires { IsByteRange span }
-        ensures { SetFrees (table_policy self.now) ((table_state self.now).files file) owner span mode result }
+        ensures { SetFrees policy ((table_state self.now).files file) owner span mode result }
     {
         match self.files.get(&file) {
-            Some(locks) => locks.freed_by_set(self.policy, owner, span, mode),
+            Some(locks) => locks.freed_by_set(policy, owner, span, mode),
             None => Freed::Anybody,
         }
     }
 
     /// Which waits on the file a release of the owner's byte locks may free.
     pub fn freed_by_release(&self, file: u64, owner: u64) -> Freed
-        ensures { Frees (table_policy self.now) ((table_state self.now).files file) (ClearsBytes ((table_state self.now).files file) owner) result }
+        ensures { (policy : Policy) → Frees policy ((table_state self.now).files file) (ClearsBytes ((table_state self.now).files file) owner) result }
     {
         match self.files.get(&file) {
             Some(locks) => locks.freed_by_release(owner),
@@ -34,21 +41,11 @@ impl Table {
 
     /// Which waits on the file a release of the owner's flock lock may free.
     pub fn freed_by_flock_release(&self, file: u64, owner: u64) -> Freed
-        ensures { Frees (table_policy self.now) ((table_state self.now).files file) (SetsFlock ((table_state self.now).files file) owner None) result }
+        ensures { (policy : Policy) → Frees policy ((table_state self.now).files file) (SetsFlock ((table_state self.now).files file) owner None) result }
     {
         match self.files.get(&file) {
             Some(locks) => locks.freed_by_flock_release(owner),
             None => Freed::Anybody,
-        }
-    }
-
-    /// Which waits on its file a wait may free that leaves: where waits are queued, those that may have stood behind it.
-    pub fn freed_by_leaving(&self, wait: &Pending) -> Freed
-        ensures { LeavingFrees (table_policy self.now) wait.now result }
-    {
-        match self.policy {
-            Policy::Held => Freed::Nobody,
-            Policy::Queue => Freed::Meeting(Reach::of(wait)),
         }
     }
 }

@@ -2,13 +2,13 @@
 ghost use Rattle.std.specs.Prelude.{◌≡◌, ◌≤◌, [], ◌∷◌, IfSome, IfNone, length};
 ghost use Rattle.lock_server.specs.Listing.{flock_place, IsByteLock, IsFlockLock, IsNextFrom, IsWaitAt, IsWaitUpTo, lock_place, number_behind, wait_place};
 ghost use Rattle.lock_server.specs.Settling.{IsSettled};
-ghost use Rattle.lock_server.specs.TableView.{table_state, table_policy};
+ghost use Rattle.lock_server.specs.TableView.{table_state};
 
 use super::Table;
 use crate::owner_waits::earlier_of;
-use crate::{FlockLock, Lock, OwnerWait, Waiting};
+use crate::{FlockLock, Lock, OwnerWait, Policy, Waiting};
 
-#[tactic(auto, unfolding(crate::specs::TableView::table_state, crate::specs::TableView::table_policy, crate::specs::TableView::entry_of))]
+#[tactic(auto, unfolding(crate::specs::TableView::table_state, crate::specs::TableView::entry_of))]
 impl Table {
     /// The first byte lock on the file, by owner and then by first byte, from this owner and byte on.
     pub fn next_lock(&self, file: u64, owner: u64, byte: u64) -> Option<Lock>
@@ -25,12 +25,12 @@ impl Table {
     }
 
     /// The wait on the file at this place in order of arrival, with what is in its way.
-    pub fn wait_at(&self, file: u64, place: usize) -> Option<Waiting>
-        requires { ∥ IsSettled (table_policy self.now) ((table_state self.now).files file) ∥₁ }
-        ensures some { IfSome result (IsWaitAt (table_policy self.now) ((table_state self.now).files file) place) }
+    pub fn wait_at(&self, policy: Policy, file: u64, place: usize) -> Option<Waiting>
+        requires { ∥ IsSettled policy ((table_state self.now).files file) ∥₁ }
+        ensures some { IfSome result (IsWaitAt policy ((table_state self.now).files file) place) }
         ensures none { IfNone result (length ((table_state self.now).files file).waits ≤ place) }
     {
-        self.files.get(&file)?.wait_at(self.policy, place as u64)
+        self.files.get(&file)?.wait_at(policy, place as u64)
     }
 
     /// The first of the waits of owners up to the last, by owner, file and ticket, from this one on. It looks at each wait on each file.

@@ -4,20 +4,19 @@ ghost use Rattle.range_core.specs.Ranges.{IsByteRange};
 ghost use Rattle.lock_server.specs.Restoring.{AreSettled, CrossesEach, flock_lock_request, JoinsUpTo, lock_request, QueuesEach, QueuesUpTo, SetsUpTo};
 ghost use Rattle.lock_server.specs.Settling.{IsSettled};
 ghost use Rattle.lock_server.specs.States.{IsTaken};
-ghost use Rattle.lock_server.specs.TableView.{AreSwept, KeepsEntries, KeepsOthers, table_state, table_policy};
+ghost use Rattle.lock_server.specs.TableView.{AreSwept, KeepsEntries, KeepsOthers, table_state};
 
 use super::Table;
 use crate::freed::Known;
 use crate::requests::{NO_TICKET, byte_request, flock_request};
-use crate::{FlockLock, Lock, Memory, Pending};
+use crate::{FlockLock, Lock, Memory, Pending, Policy};
 
-#[tactic(auto, unfolding(crate::specs::TableView::table_state, crate::specs::TableView::table_policy, crate::specs::TableView::entry_of))]
+#[tactic(auto, unfolding(crate::specs::TableView::table_state, crate::specs::TableView::entry_of))]
 impl Table {
     /// Sets these byte locks on the file, up to the first one that is held back, whose place is told.
     pub fn restore_locks(&mut self, file: u64, locks: &[Lock]) -> Result<Option<usize>, Memory>
         requires { All (λ lock. IsByteRange lock.span) locks.now }
         ensures sets { IfOk result (λ held_back. SetsUpTo lock_request (table_state self.old) file locks.now held_back (table_state self.new)) }
-        ensures policy { table_policy self.new ≡ table_policy self.old }
         ensures swept { AreSwept self.old → AreSwept self.new }
     {
         for (i, lock) in locks.iter().enumerate() {
@@ -37,7 +36,6 @@ impl Table {
         locks: &[FlockLock],
     ) -> Result<Option<usize>, Memory>
         ensures sets { IfOk result (λ held_back. SetsUpTo flock_lock_request (table_state self.old) file locks.now held_back (table_state self.new)) }
-        ensures policy { table_policy self.new ≡ table_policy self.old }
         ensures swept { AreSwept self.old → AreSwept self.new }
     {
         for (i, lock) in locks.iter().enumerate() {
@@ -55,7 +53,6 @@ impl Table {
     pub fn restore_waits(&mut self, file: u64, waits: &[Pending]) -> Result<Option<usize>, Memory>
         requires { All (λ wait. IsByteRange wait.span) waits.now }
         ensures joins { IfOk result (λ taken. JoinsUpTo (table_state self.old) file waits.now taken (table_state self.new)) }
-        ensures policy { table_policy self.new ≡ table_policy self.old }
         ensures swept { AreSwept self.old → AreSwept self.new }
     {
         for (i, wait) in waits.iter().enumerate() {
@@ -71,7 +68,6 @@ impl Table {
     /// These grants are queued, up to the first one whose ticket is taken, whose place is told.
     pub fn restore_grants(&mut self, tickets: &[u64]) -> Result<Option<usize>, Memory>
         ensures queues { IfOk result (λ taken. QueuesUpTo (table_state self.old) tickets.now taken (table_state self.new)) }
-        ensures policy { table_policy self.new ≡ table_policy self.old }
         ensures entries { KeepsEntries self.old self.new }
     {
         for (i, ticket) in tickets.iter().enumerate() {
@@ -87,7 +83,6 @@ impl Table {
     fn queue(&mut self, ticket: u64) -> Result<(), Memory>
         requires { ¬ IsTaken (table_state self.old) ticket }
         ensures queues { OnOk result (QueuesEach (table_state self.old) (ticket ∷ []) (table_state self.new)) }
-        ensures policy { table_policy self.new ≡ table_policy self.old }
         ensures entries { KeepsEntries self.old self.new }
     {
         self.tickets.queue(ticket)
@@ -96,7 +91,6 @@ impl Table {
     /// These owners are crossed, where they have detected waits. It takes no memory.
     pub fn restore_crossed(&mut self, owners: &[u64])
         ensures crosses { CrossesEach (table_state self.old) owners.now (table_state self.new) }
-        ensures policy { table_policy self.new ≡ table_policy self.old }
         ensures entries { KeepsEntries self.old self.new }
     {
         for owner in owners {
@@ -107,7 +101,6 @@ impl Table {
     /// The owner is crossed, where it has a detected wait.
     fn cross(&mut self, owner: u64)
         ensures crosses { CrossesEach (table_state self.old) (owner ∷ []) (table_state self.new) }
-        ensures policy { table_policy self.new ≡ table_policy self.old }
         ensures entries { KeepsEntries self.old self.new }
     {
         self.waiters.cross(owner);
@@ -124,13 +117,13 @@ impl Table {
     }
 
     /// The first file with a wait that nothing blocks, and the place of the first such wait there.
-    pub fn first_ready(&self) -> Option<(u64, usize)>
-        ensures some { IfSome result (λ found. ¬ IsSettled (table_policy self.now) ((table_state self.now).files found.0)) }
-        ensures none { IfNone result (AreSettled (table_policy self.now) (table_state self.now)) }
+    pub fn first_ready(&self, policy: Policy) -> Option<(u64, usize)>
+        ensures some { IfSome result (λ found. ¬ IsSettled policy ((table_state self.now).files found.0)) }
+        ensures none { IfNone result (AreSettled policy (table_state self.now)) }
     {
         let mut above = None;
         while let Some(file) = self.next_file(above) {
-            if let Some(place) = self.next_ready(file, Known::nothing()) {
+            if let Some(place) = self.next_ready(policy, file, Known::nothing()) {
                 return Some((file, place as usize));
             }
             above = Some(file);

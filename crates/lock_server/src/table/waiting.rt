@@ -6,23 +6,23 @@ ghost use Rattle.lock_server.specs.Files.{Leaves};
 ghost use Rattle.lock_server.specs.TableRoom.{HasRoomFor};
 ghost use Rattle.lock_server.specs.Settling.{HasAlready, IsBlockedUnless, IsWaitBlocked};
 ghost use Rattle.lock_server.specs.States.{IsPending, IsTaken, SameState};
-ghost use Rattle.lock_server.specs.TableView.{HasEntry, IsSwept, KeepsEntries, KeepsOthers, table_state, table_policy};
+ghost use Rattle.lock_server.specs.TableView.{HasEntry, IsSwept, KeepsEntries, KeepsOthers, table_state};
 ghost use Rattle.lock_server.specs.TicketsView.{place_at};
 
 use super::Table;
 use crate::tickets::Place;
-use crate::{Memory, Pending};
+use crate::{Memory, Pending, Policy};
 
-#[tactic(auto, unfolding(crate::specs::TableView::table_state, crate::specs::TableView::table_policy, crate::specs::TableView::entry_of))]
+#[tactic(auto, unfolding(crate::specs::TableView::table_state, crate::specs::TableView::entry_of))]
 impl Table {
     /// Whether the request would be blocked, were it to wait (POSIX.1-2017 fcntl, `F_SETLKW`; flock(2)).
-    pub fn blocks(&self, file: u64, wanted: &Pending) -> bool
+    pub fn blocks(&self, policy: Policy, file: u64, wanted: &Pending) -> bool
         requires { IsByteRange wanted.now.span }
         ensures { IsTrue result
-            ↔ IsWaitBlocked (table_policy self.now) ((table_state self.now).files file) ((table_state self.now).files file).waits wanted.now }
+            ↔ IsWaitBlocked policy ((table_state self.now).files file) ((table_state self.now).files file).waits wanted.now }
     {
         match self.files.get(&file) {
-            Some(locks) => locks.is_wait_blocked(self.policy, wanted),
+            Some(locks) => locks.is_wait_blocked(policy, wanted),
             None => false,
         }
     }
@@ -39,13 +39,13 @@ impl Table {
     }
 
     /// Whether the request would be blocked, were it to wait and had its owner what it is for, or hadn't.
-    pub fn blocks_unless(&self, file: u64, wanted: &Pending, had: bool) -> bool
+    pub fn blocks_unless(&self, policy: Policy, file: u64, wanted: &Pending, had: bool) -> bool
         requires { IsByteRange wanted.now.span }
-        ensures { IsTrue result ↔ IsBlockedUnless (table_policy self.now) ((table_state self.now).files file) ((table_state self.now).files file).waits
+        ensures { IsTrue result ↔ IsBlockedUnless policy ((table_state self.now).files file) ((table_state self.now).files file).waits
             wanted.now (IsTrue had) }
     {
         match self.files.get(&file) {
-            Some(locks) => locks.is_blocked_unless(self.policy, wanted, had),
+            Some(locks) => locks.is_blocked_unless(policy, wanted, had),
             None => false,
         }
     }
@@ -57,7 +57,6 @@ impl Table {
         requires { ¬ IsTaken (table_state self.old) wanted.now.ticket }
         ensures same { SameState (table_state self.old) (table_state self.new) }
         ensures ok { OnOk result (HasRoomFor self.new file wanted.now) }
-        ensures policy { table_policy self.new ≡ table_policy self.old }
         ensures swept { OnErr result (IsSwept self.old file → IsSwept self.new file) }
         ensures others { KeepsOthers self.old self.new file }
     {
@@ -78,7 +77,6 @@ impl Table {
         requires entry { HasEntry self.old file }
         ensures same { SameState (table_state self.old) (table_state self.new) }
         ensures ok { OnOk result (HasRoomFor self.new file wanted.now) }
-        ensures policy { table_policy self.new ≡ table_policy self.old }
         ensures others { KeepsOthers self.old self.new file }
     {
         let locks = self.files.get_mut(&file).unwrap();
@@ -93,7 +91,6 @@ impl Table {
         requires range { IsByteRange wanted.span }
         requires room { HasRoomFor self.old file wanted }
         ensures suspends { Suspends (table_state self.old) file wanted (table_state self.new) }
-        ensures policy { table_policy self.new ≡ table_policy self.old }
         ensures others { KeepsOthers self.old self.new file }
     {
         let locks = self.files.get_mut(&file).unwrap();
@@ -107,7 +104,6 @@ impl Table {
         requires { place_at self.old.tickets ticket ≡ Some Place.Reserved }
         ensures free { place_at self.new.tickets ticket ≡ None }
         ensures same { SameState (table_state self.old) (table_state self.new) }
-        ensures policy { table_policy self.new ≡ table_policy self.old }
         ensures entries { KeepsEntries self.old self.new }
     {
         self.tickets.forget(ticket);
@@ -120,7 +116,6 @@ impl Table {
         ensures wait { IfSome result (λ found. (found.1.ticket ≡ ticket) × (before : List Pending) × (after : List Pending)
             × Leaves ((table_state self.old).files found.0) before found.1 after ((table_state self.new).files found.0)) }
         ensures none { IfNone result ((¬ IsPending (table_state self.old) ticket) × SameState (table_state self.old) (table_state self.new)) }
-        ensures policy { table_policy self.new ≡ table_policy self.old }
         ensures others { IfSome result (λ found. KeepsOthers self.old self.new found.0) }
         ensures entries { IfNone result (KeepsEntries self.old self.new) }
     {

@@ -8,7 +8,6 @@ use Rattle.lock_server.proofs.closing.close.Goals as goal
 pub loop-owner-init : goal.loop-owner-init
 loop-owner-init c = record {
   closing = grind (arith, common_steps, closing_none, crosses_itself);
-  policy = refl;
   others = λ other differs. refl;
   kept = λ kept. kept;
 }
@@ -16,7 +15,6 @@ loop-owner-init c = record {
 pub loop-owner-preserved : goal.loop-owner-preserved
 loop-owner-preserved c = record {
   closing = grind (arith, common_steps, closing_more, next_of, next_from_above, above_from_next);
-  policy = c.close_owner.ensures.policy ∙ c.loop-owner.invariant.policy;
   others = λ other differs. c.close_owner.ensures.others other differs ∙ c.loop-owner.invariant.others other differs;
   kept = λ kept. c.close_owner.ensures.kept (c.loop-owner.invariant.kept kept);
 }

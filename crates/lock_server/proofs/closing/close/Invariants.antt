@@ -1,7 +1,7 @@
-use Rattle.std.proofs.Common.{◌≡◌, ◌-◌, ◌^◌}
+use Rattle.std.proofs.Common.{◌-◌, ◌^◌}
 use Rattle.lock_server.specs.HoldingsView.{AreKept}
 use Rattle.lock_server.specs.OpeningsView.{through_at}
-use Rattle.lock_server.specs.TableView.{KeepsOthers, table_policy, table_state}
+use Rattle.lock_server.specs.TableView.{KeepsOthers, table_state}
 use Rattle.lock_server.proofs.ClosingLemmas.{IsClosing}
 use Rattle.lock_server.proofs.ForgetLemmas.{next_of}
 use Rattle.lock_server.proofs.closing.close.Given as goal
@@ -10,7 +10,6 @@ abbrev pub invariant-loop-owner : goal.invariant-loop-owner
 invariant-loop-owner l = record {
   closing : IsClosing (table_state l.initial.table) (through_at l.initial.openings) l.file l.open_file (next_of l.above) (table_state l.table)
       (through_at l.openings);
-  policy : table_policy l.table ≡ table_policy l.initial.table;
   others : KeepsOthers l.initial.table l.table l.file;
   kept : AreKept l.initial.holdings (table_state l.initial.table) (through_at l.initial.openings) → AreKept l.holdings (table_state l.table) (through_at l.openings);
 }

@@ -1,19 +1,18 @@
-use Rattle.std.proofs.Common.{◌∙◌}
 use Rattle.lock_book.specs.Changes.{whole_file}
 use Rattle.wait_core.specs.declared.Family.TheVariants.{Whole}
-use Rattle.lock_server.specs.TableView.{table_policy, table_state}
+use Rattle.lock_server.specs.TableView.{table_state}
 use Rattle.lock_server.proofs.GrantedMoves.{KeepsRoomOn-then}
 use Rattle.lock_server.proofs.SafeLemmas.{moves_unset}
-use Rattle.lock_server.proofs.ServerLemmas.{rests, safe_rested}
+use Rattle.lock_server.proofs.ServerLemmas.{safe_rested}
 use Rattle.lock_server.proofs.converting.convert.Goals as goal
 
 pub returns-clause-safe : goal.returns-clause-safe
 returns-clause-safe c safe =
     let table = c.args.table.now in
     let set = c.set_flock.new.self in
-    let rest = rests (table_policy table) set c.settle.new.self c.args.file c.set_flock.ensures.policy c.settle.ensures.policy c.settle.ensures.settles c.settle.ensures.settled in
-    safe_rested table c.settle.new.self _ (table_state set) c.args.file safe (c.settle.ensures.policy ∙ c.set_flock.ensures.policy)
-    (moves_unset (table_state table) c.args.file Whole c.args.holder whole_file (table_state set) c.set_flock.ensures.sets) rest
+    safe_rested c.args.policy table c.settle.new.self _ (table_state set) c.args.file safe
+    (moves_unset (table_state table) c.args.file Whole c.args.holder whole_file (table_state set) c.set_flock.ensures.sets)
+    (record { settles = c.settle.ensures.settles; settled = c.settle.ensures.settled })
 
 pub returns-clause-room : goal.returns-clause-room
 returns-clause-room c = KeepsRoomOn-then c.args.table.now c.set_flock.new.self c.settle.new.self c.args.file c.set_flock.ensures.room c.settle.ensures.room

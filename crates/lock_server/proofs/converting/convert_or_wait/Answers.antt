@@ -2,15 +2,14 @@ use Rattle.std.proofs.Common.{◌≡◌, ◌∙◌, inl, inr, refl, sym, subst, 
 use Rattle.std.specs.Prelude.{IsTrue}
 use Rattle.lock_book.specs.Changes.{whole_file}
 use Rattle.wait_core.specs.declared.Family.TheVariants.{Whole}
-use Rattle.wait_core.specs.declared.Policy.{Policy}
 use Rattle.lock_server.specs.Files.{FileState}
 use Rattle.lock_server.specs.Settling.{HasAlready, IsBlockedUnless, IsHeldBack}
 use Rattle.lock_server.specs.States.{State}
-use Rattle.lock_server.specs.TableView.{table_policy, table_state}
+use Rattle.lock_server.specs.TableView.{table_state}
 use Rattle.lock_server.proofs.FlockLemmas.{never_refused, place_from_room, released_by_set, set_as_asked}
 use Rattle.lock_server.proofs.ListLemmas.{held_back, unless_same}
 use Rattle.lock_server.proofs.SafeLemmas.{moves_given, moves_unset}
-use Rattle.lock_server.proofs.ServerLemmas.{ComesToRest, changes_at_rest, rests, safe_rested_joined, safe_rested_twice, swept}
+use Rattle.lock_server.proofs.ServerLemmas.{ComesToRest, changes_at_rest, safe_rested_joined, safe_rested_twice, swept}
 use Rattle.lock_server.proofs.StateLemmas.{file_from_same, state_from_same}
 use Rattle.lock_server.proofs.SweptLemmas.{HasNoLock, flock_set, swept_with_lock}
 use Rattle.lock_server.proofs.converting.convert_or_wait.Goals.{After-set_flock, After-set_flock-2, After-settle-2, After-sweep}
@@ -23,13 +22,10 @@ pub join-requires-clause-room : goal.join-requires-clause-room
 join-requires-clause-room c = c.set_flock.ensures.room.requests c.args.wanted c.requires.flock.0 c.requires.flock.1 c.requires.room
 
 -- the wait has joined, and the file has come to rest
-rest : (c : After-sweep) → ComesToRest (table_policy c.args.table.now) (table_state c.join.new.self) c.args.file (table_state c.sweep.new.self)
+rest : (c : After-sweep) → ComesToRest c.args.policy (table_state c.join.new.self) c.args.file (table_state c.sweep.new.self)
 rest c =
-    let table = c.args.table.now in
-    let joined = c.join.new.self in
-    swept (table_policy table) (table_state joined) c.args.file (table_state c.settle.new.self) (table_state c.sweep.new.self)
-    (rests (table_policy table) joined c.settle.new.self c.args.file (c.join.ensures.policy ∙ c.set_flock.ensures.policy) c.settle.ensures.policy c.settle.ensures.settles
-    c.settle.ensures.settled) c.sweep.ensures.same
+    swept c.args.policy (table_state c.join.new.self) c.args.file (table_state c.settle.new.self) (table_state c.sweep.new.self)
+    (record { settles = c.settle.ensures.settles; settled = c.settle.ensures.settled }) c.sweep.ensures.same
 
 pub returns-then-blocks_unless-clause-comes_to : goal.returns-then-blocks_unless-clause-comes_to
 returns-then-blocks_unless-clause-comes_to c =
@@ -38,9 +34,8 @@ returns-then-blocks_unless-clause-comes_to c =
     let gone = table_state c.set_flock.new.self in
     let F = gone.files c.args.file in
     let Had = HasAlready (S.files c.args.file) c.args.wanted in
-    let blocked = subst (λ (p : Policy). IsBlockedUnless p F F.waits c.args.wanted Had) c.set_flock.ensures.policy
-    (unless_same (table_policy c.set_flock.new.self) F F.waits c.args.wanted (IsTrue c.has_already-had.result) Had c.has_already-had.ensures
-    (c.blocks_unless.ensures.0 c.if-blocks_unless.true)) in (
+    let blocked = unless_same c.args.policy F F.waits c.args.wanted (IsTrue c.has_already-had.result) Had c.has_already-had.ensures
+    (c.blocks_unless.ensures.0 c.if-blocks_unless.true) in (
       gone,
       released_by_set S c.args.file c.args.wanted.owner gone c.set_flock.ensures.sets,
       inl (blocked, (refl, table_state c.join.new.self, c.join.ensures.suspends, (rest at.After-sweep).settles)),
@@ -51,10 +46,9 @@ returns-then-blocks_unless-clause-safe c safe =
     let at = goal.at.returns-then-blocks_unless-clause-safe c in
     let table = c.args.table.now in
     let gone = table_state c.set_flock.new.self in
-    safe_rested_joined table c.sweep.new.self [] gone c.args.file c.args.wanted (table_state c.join.new.self) safe
-    (c.sweep.ensures.policy ∙ c.settle.ensures.policy ∙ c.join.ensures.policy ∙ c.set_flock.ensures.policy)
+    safe_rested_joined c.args.policy table c.sweep.new.self [] gone c.args.file c.args.wanted (table_state c.join.new.self) safe
     (moves_unset (table_state table) c.args.file Whole c.args.wanted.owner whole_file gone c.set_flock.ensures.sets) c.join.ensures.suspends
-    (never_refused (table_policy table) gone c.args.file c.args.wanted c.requires.flock.1) (rest at.After-sweep)
+    (never_refused c.args.policy gone c.args.file c.args.wanted c.requires.flock.1) (rest at.After-sweep)
 
 pub set_flock-requires-2 : goal.set_flock-requires-2
 set_flock-requires-2 c = c.set_flock.ensures.room.places c.args.wanted.owner (place_from_room c.args.table.now c.args.file c.args.wanted c.requires.flock.0 c.requires.room)
@@ -65,23 +59,20 @@ give_back-requires c =
     (c.set_flock.ensures.room.requests c.args.wanted c.requires.flock.0 c.requires.flock.1 c.requires.room)).ticket
 
 -- nothing blocks the request, and the file has come to rest behind its set
-open_still : (c : After-set_flock-2) → ¬ IsBlockedUnless (table_policy c.args.table.now) ((table_state c.set_flock.new.self).files c.args.file)
+open_still : (c : After-set_flock-2) → ¬ IsBlockedUnless c.args.policy ((table_state c.set_flock.new.self).files c.args.file)
     ((table_state c.set_flock.new.self).files c.args.file).waits c.args.wanted (HasAlready ((table_state c.args.table.now).files c.args.file) c.args.wanted)
 open_still c blocked =
     let F = (table_state c.set_flock.new.self).files c.args.file in
     let Had = HasAlready ((table_state c.args.table.now).files c.args.file) c.args.wanted in
     let same = c.has_already-had.ensures in
-    let was = subst (λ (p : Policy). IsBlockedUnless p F F.waits c.args.wanted Had) (sym c.set_flock.ensures.policy) blocked in
-    let is = c.blocks_unless.ensures.1 (unless_same (table_policy c.set_flock.new.self) F F.waits c.args.wanted Had (IsTrue c.has_already-had.result) (same.1, same.0) was) in
+    let is = c.blocks_unless.ensures.1 (unless_same c.args.policy F F.waits c.args.wanted Had (IsTrue c.has_already-had.result) (same.1, same.0) blocked) in
     let isnt = c.if-blocks_unless.false in let h : true ≡ false = sym is ∙ isnt in cc
 
-rest_set : (c : After-settle-2) → ComesToRest (table_policy c.args.table.now) (table_state c.set_flock-2.new.self) c.args.file (table_state c.settle-2.new.self)
+rest_set : (c : After-settle-2) → ComesToRest c.args.policy (table_state c.set_flock-2.new.self) c.args.file (table_state c.settle-2.new.self)
 rest_set c =
-    let set = c.set_flock-2.new.self in
-    let back = rests (table_policy c.args.table.now) c.give_back.new.self c.settle-2.new.self c.args.file
-    (c.give_back.ensures.policy ∙ c.set_flock-2.ensures.policy ∙ c.set_flock.ensures.policy) c.settle-2.ensures.policy c.settle-2.ensures.settles c.settle-2.ensures.settled in
-    subst (λ (M : State). ComesToRest (table_policy c.args.table.now) M c.args.file (table_state c.settle-2.new.self))
-    (state_from_same (table_state set) (table_state c.give_back.new.self) c.give_back.ensures.same) back
+    subst (λ (M : State). ComesToRest c.args.policy M c.args.file (table_state c.settle-2.new.self))
+    (state_from_same (table_state c.set_flock-2.new.self) (table_state c.give_back.new.self) c.give_back.ensures.same)
+    (record { settles = c.settle-2.ensures.settles; settled = c.settle-2.ensures.settled })
 
 pub returns-clause-comes_to : goal.returns-clause-comes_to
 returns-clause-comes_to c =
@@ -96,7 +87,7 @@ returns-clause-comes_to c =
         open_still at.After-set_flock-2,
         (
           refl,
-          changes_at_rest (table_policy c.args.table.now) gone c.args.file wanted.family wanted.owner wanted.span (Some wanted.mode) set (table_state c.settle-2.new.self) sets
+          changes_at_rest c.args.policy gone c.args.file wanted.family wanted.owner wanted.span (Some wanted.mode) set (table_state c.settle-2.new.self) sets
               (rest_set at.After-settle-2),
         ),
       ),
@@ -110,9 +101,8 @@ returns-clause-safe c safe =
     let gone = table_state c.set_flock.new.self in
     let set = table_state c.set_flock-2.new.self in
     let F = gone.files c.args.file in
-    let free : ¬ IsHeldBack F wanted = λ held. open_still at.After-set_flock-2 (held_back (table_policy table) F F.waits wanted (HasAlready ((table_state table).files c.args.file) wanted) held) in
-    safe_rested_twice table c.settle-2.new.self [] _ gone set c.args.file safe
-    (c.settle-2.ensures.policy ∙ c.give_back.ensures.policy ∙ c.set_flock-2.ensures.policy ∙ c.set_flock.ensures.policy)
+    let free : ¬ IsHeldBack F wanted = λ held. open_still at.After-set_flock-2 (held_back c.args.policy F F.waits wanted (HasAlready ((table_state table).files c.args.file) wanted) held) in
+    safe_rested_twice c.args.policy table c.settle-2.new.self [] _ gone set c.args.file safe
     (moves_unset (table_state table) c.args.file Whole wanted.owner whole_file gone c.set_flock.ensures.sets)
     (moves_given gone c.args.file wanted set free (set_as_asked gone c.args.file wanted set c.requires.flock.0 c.set_flock-2.ensures.sets)) (rest_set at.After-settle-2)
 
@@ -121,7 +111,7 @@ returns-clause-swept c =
     let gone = (table_state c.set_flock.new.self).files c.args.file in
     let set = (table_state c.set_flock-2.new.self).files c.args.file in
     let back = c.give_back.new.self in
-    swept_with_lock (table_policy back) (table_state back) c.args.file c.settle-2.new.self
+    swept_with_lock c.args.policy (table_state back) c.args.file c.settle-2.new.self
     (λ none. flock_set gone c.args.wanted.owner c.args.wanted.mode set c.set_flock-2.ensures.sets.sets
     (subst (λ (F : FileState). HasNoLock F) (file_from_same set ((table_state back).files c.args.file) (c.give_back.ensures.same.files c.args.file)) none))
     c.settle-2.ensures.settles

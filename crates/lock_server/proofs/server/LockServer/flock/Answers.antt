@@ -1,7 +1,6 @@
 use Rattle.std.proofs.Common.{◌∙◌, sym, subst, Option}
 use Rattle.range_core.specs.declared.Mode.{Mode}
-use Rattle.wait_core.specs.declared.Policy.{Policy}
-use Rattle.lock_server.specs.Calls.{FlockFrom, FlockOpComesTo, flock_request, no_ticket}
+use Rattle.lock_server.specs.Calls.{FlockOpComesTo, flock_request, no_ticket}
 use Rattle.lock_server.specs.OpeningsView.{through_at}
 use Rattle.lock_server.specs.ServerView.{rules_of, state_of}
 use Rattle.lock_server.specs.TableView.{table_state}
@@ -21,16 +20,15 @@ returns-clause-ok c =
     let wanted = flock_request no_ticket c.args.owner c.in-Some.mode in
     let held = c.flock_mode-held.result in
     let differs = apart_by_test held c.in-Some.mode c.eq.result c.eq.ensures c.if-eq.false in
-    let from = subst (λ (p : Policy). FlockFrom (record { policy = p; conversion = c.args.self.now.conversion }) P c.args.file wanted held c.flock-answer.result T) c.place_flock.ensures.policy c.flock-answer.ensures.comes_to in
     subst (λ (mode : Option Mode). FlockOpComesTo rules S c.args.file c.args.owner mode c.flock-answer.result T) (sym c.in-Some.is)
-    (flock_from rules S P c.args.file wanted held c.flock-answer.result T c.flock_mode-held.ensures differs c.in_ok-place_flock.ensures.same from)
+    (flock_from rules S P c.args.file wanted held c.flock-answer.result T c.flock_mode-held.ensures differs c.in_ok-place_flock.ensures.same c.flock-answer.ensures.comes_to)
 
 pub invariant_of-self : goal.invariant_of-self
 invariant_of-self c =
     let table = c.args.self.now.table in
     let new = c.place_flock.new.table in
     record {
-      safe = safe_same table new c.place_flock.ensures.same c.place_flock.ensures.policy c.args.self.now.safe;
+      safe = safe_same _ table new c.place_flock.ensures.same c.args.self.now.safe;
       swept = all_swept_but table new c.args.file c.place_flock.ensures.others (c.in_err-place_flock.ensures.swept (c.args.self.now.swept c.args.file)) c.args.self.now.swept;
       kept = c.place_flock.ensures.kept c.args.self.now.kept;
     }
@@ -39,9 +37,8 @@ pub invariant_of-self-2 : goal.invariant_of-self-2
 invariant_of-self-2 c =
     let table = c.args.self.now.table in
     let through = through_at c.args.self.now.openings in
-    let placed = safe_same table c.place_flock.new.table c.place_flock.ensures.same c.place_flock.ensures.policy in
     record {
-      safe = c.flock-answer.ensures.safe (placed c.args.self.now.safe);
+      safe = c.flock-answer.ensures.safe (safe_same _ table c.place_flock.new.table c.place_flock.ensures.same c.args.self.now.safe);
       swept = all_swept_but table c.flock-answer.new.table c.args.file (λ other differs. c.flock-answer.ensures.others other differs ∙ c.place_flock.ensures.others other differs)
           c.flock-answer.ensures.swept c.args.self.now.swept;
       kept = kept_tidied c.place_flock.new.self c.tidy.new.self (table_state c.flock-answer.new.table) through c.args.owner c.args.file c.tidy.ensures

@@ -1,10 +1,9 @@
 use Rattle.std.proofs.Common.{◌∙◌, subst}
-use Rattle.wait_core.specs.declared.Policy.{Policy}
 use Rattle.lock_server.specs.declared.Pending.{Pending}
 use Rattle.lock_server.specs.Calls.{FlockWaitFrom, flock_request}
 use Rattle.lock_server.specs.OpeningsView.{through_at}
 use Rattle.lock_server.specs.ServerView.{rules_of, state_of}
-use Rattle.lock_server.specs.TableView.{table_policy, table_state}
+use Rattle.lock_server.specs.TableView.{table_state}
 use Rattle.lock_server.proofs.FlockLemmas.{apart_by_test, flock_wait_from}
 use Rattle.lock_server.proofs.HoldingLemmas.{kept_flock_wait}
 use Rattle.lock_server.proofs.ServerLemmas.{safe_same}
@@ -21,17 +20,16 @@ returns-clause-ok c =
     let wanted = flock_request c.args.ticket c.args.owner c.args.mode in
     let held = c.flock_mode-held.result in
     let differs = apart_by_test held c.args.mode c.eq.result c.eq.ensures c.if-eq.false in
-    let as_asked = subst (λ (w : Pending). FlockWaitFrom (record { policy = table_policy c.reserve.new.table; conversion = c.args.self.now.conversion }) P c.args.file w held c.flock_wait.result T)
+    let as_asked = subst (λ (w : Pending). FlockWaitFrom rules P c.args.file w held c.flock_wait.result T)
     c.flock_request-wanted.ensures c.flock_wait.ensures.comes_to in
-    let from = subst (λ (p : Policy). FlockWaitFrom (record { policy = p; conversion = c.args.self.now.conversion }) P c.args.file wanted held c.flock_wait.result T) c.reserve.ensures.policy as_asked in
-    flock_wait_from rules S P c.args.file wanted held c.flock_wait.result T c.flock_mode-held.ensures differs c.in_ok-reserve.ensures.same from
+    flock_wait_from rules S P c.args.file wanted held c.flock_wait.result T c.flock_mode-held.ensures differs c.in_ok-reserve.ensures.same as_asked
 
 pub invariant_of-self : goal.invariant_of-self
 invariant_of-self c =
     let table = c.args.self.now.table in
     let new = c.reserve.new.table in
     record {
-      safe = safe_same table new c.reserve.ensures.same c.reserve.ensures.policy c.args.self.now.safe;
+      safe = safe_same _ table new c.reserve.ensures.same c.args.self.now.safe;
       swept = all_swept_but table new c.args.file c.reserve.ensures.others (c.in_err-reserve.ensures.swept (c.args.self.now.swept c.args.file)) c.args.self.now.swept;
       kept = c.reserve.ensures.kept c.args.self.now.kept;
     }
@@ -39,9 +37,8 @@ invariant_of-self c =
 pub invariant_of-self-2 : goal.invariant_of-self-2
 invariant_of-self-2 c =
     let table = c.args.self.now.table in
-    let reserved = safe_same table c.reserve.new.table c.reserve.ensures.same c.reserve.ensures.policy in
     record {
-      safe = c.flock_wait.ensures.safe (reserved c.args.self.now.safe);
+      safe = c.flock_wait.ensures.safe (safe_same _ table c.reserve.new.table c.reserve.ensures.same c.args.self.now.safe);
       swept = all_swept_but table c.flock_wait.new.table c.args.file (λ other differs. c.flock_wait.ensures.others other differs ∙ c.reserve.ensures.others other differs)
           c.flock_wait.ensures.swept c.args.self.now.swept;
       kept = kept_flock_wait c.reserve.new.self (through_at c.args.self.now.openings) c.args.file c.flock_request-wanted.result c.in_ok-reserve.ensures.entered _

@@ -1,28 +1,24 @@
-use Rattle.std.proofs.Common.{arith, ◌∙◌, subst, sym}
+use Rattle.std.proofs.Common.{arith, ◌∙◌}
 use Rattle.std.proofs.lemmas.Grind.{common_steps}
 use Rattle.wait_core.specs.declared.Family.TheVariants.{Bytes}
 use Rattle.lock_server.specs.OpeningsView.{through_at}
 use Rattle.lock_server.specs.ServerView.{rules_of, state_of}
-use Rattle.lock_server.specs.TableView.{table_policy, table_state}
+use Rattle.lock_server.specs.TableView.{table_state}
 use Rattle.lock_server.proofs.HoldingLemmas.{kept_moved, kept_rested, kept_tidied, kept_unseen, unseen_on}
 use Rattle.lock_server.proofs.SafeLemmas.{moves_released}
-use Rattle.lock_server.proofs.ServerLemmas.{releases_at_rest, rests, safe_rested, swept}
+use Rattle.lock_server.proofs.ServerLemmas.{releases_at_rest, safe_rested, swept}
 use Rattle.lock_server.proofs.SweptLemmas.{all_swept_but}
-use Rattle.lock_server.specs.Freed.{AreBlockedBut}
 use Rattle.lock_server.proofs.KnownLemmas.{settled_known}
-use Rattle.wait_core.specs.declared.Policy.{Policy}
 use Rattle.lock_server.proofs.server.LockServer.flush.Goals as goal
 
 pub invariant_of-self : goal.invariant_of-self
 invariant_of-self c =
     let table = c.args.self.now.table in
     let through = through_at c.args.self.now.openings in
-    let rest = swept (table_policy table) (table_state c.release.new.self) c.args.file (table_state c.settle_among.new.self) (table_state c.sweep.new.self)
-    (rests (table_policy table) c.release.new.self c.settle_among.new.self c.args.file c.release.ensures.policy c.settle_among.ensures.policy c.settle_among.ensures.settles c.settle_among.ensures.settled)
-    c.sweep.ensures.same in
+    let rest = swept _ (table_state c.release.new.self) c.args.file (table_state c.settle_among.new.self) (table_state c.sweep.new.self)
+    (record { settles = c.settle_among.ensures.settles; settled = c.settle_among.ensures.settled }) c.sweep.ensures.same in
     record {
-      safe = safe_rested table c.sweep.new.self _ (table_state c.release.new.self) c.args.file c.args.self.now.safe
-          (c.sweep.ensures.policy ∙ c.settle_among.ensures.policy ∙ c.release.ensures.policy)
+      safe = safe_rested _ table c.sweep.new.self _ (table_state c.release.new.self) c.args.file c.args.self.now.safe
           (moves_released (table_state table) c.args.file Bytes c.args.owner (table_state c.release.new.self) c.release.ensures.releases) rest;
       swept = all_swept_but table c.sweep.new.self c.args.file
           (λ other differs. c.sweep.ensures.others other differs ∙ c.settle_among.ensures.others other differs ∙ c.release.ensures.others other differs)
@@ -30,19 +26,18 @@ invariant_of-self c =
       kept = kept_tidied c.args.self.now.holdings c.tidy.new.self (table_state c.sweep.new.self) (through_at c.forget.new.self) c.args.owner c.args.file c.tidy.ensures
           (kept_unseen c.args.self.now.holdings (table_state c.sweep.new.self) through (through_at c.forget.new.self)
           (unseen_on through (through_at c.forget.new.self) c.args.file c.args.owner c.forget.ensures)
-          (kept_rested c.args.self.now.holdings through (table_policy table) (table_state c.release.new.self) c.args.file (table_state c.sweep.new.self) rest
+          (kept_rested c.args.self.now.holdings through _ (table_state c.release.new.self) c.args.file (table_state c.sweep.new.self) rest
           (kept_moved c.args.self.now.holdings through (table_state table) c.args.file (table_state c.release.new.self) c.args.self.now.kept
           (moves_released (table_state table) c.args.file Bytes c.args.owner (table_state c.release.new.self) c.release.ensures.releases))));
     }
 
 pub returns-clause-flushes : goal.returns-clause-flushes
 unfolding rules_of state_of
-returns-clause-flushes c = grind (arith, common_steps, swept, rests, releases_at_rest)
+returns-clause-flushes c = grind (arith, common_steps, swept, releases_at_rest)
 
 pub settle_among-requires : goal.settle_among-requires
 settle_among-requires c =
     let table = c.args.self.now.table in
     let G = (table_state c.release.new.self).files c.args.file in
     let releases = c.release.ensures.releases in
-    subst (λ (policy : Policy). AreBlockedBut policy G c.freed_by_release-freed.result) (sym c.release.ensures.policy)
-    (c.freed_by_release-freed.ensures G releases.unlocks releases.waits (settled_known table c.args.file c.args.self.now.safe))
+    c.freed_by_release-freed.ensures _ G releases.unlocks releases.waits (settled_known _ table c.args.file c.args.self.now.safe)

@@ -1,9 +1,8 @@
 use Rattle.std.proofs.Math.Logic.{∥∥₁_map}
 use Rattle.lock_server.specs.OpeningsView.{through_at}
-use Rattle.lock_server.specs.TableView.{table_policy, table_state}
+use Rattle.lock_server.specs.TableView.{table_state}
 use Rattle.lock_server.proofs.HoldingLemmas.{kept_file_forgotten}
 use Rattle.lock_server.proofs.SafeClientLemmas.{safe_file_forgotten}
-use Rattle.lock_server.proofs.ServerLemmas.{safe_at}
 use Rattle.lock_server.proofs.SweptLemmas.{all_swept_but}
 use Rattle.lock_server.proofs.TakenLemmas.{tickets_once}
 use Rattle.lock_server.proofs.server.LockServer.forget_file.Goals as goal
@@ -14,8 +13,7 @@ invariant_of-self c =
     let new = c.forget_file.new.self in
     record {
       safe = ∥∥₁_map c.args.self.now.safe (λ safe.
-          safe_at (table_policy old) new c.forget_file.ensures.policy
-          (safe_file_forgotten (table_policy old) (table_state old) c.args.file (table_state new) safe c.forget_file.ensures.forgets (tickets_once new)));
+          safe_file_forgotten _ (table_state old) c.args.file (table_state new) safe c.forget_file.ensures.forgets (tickets_once new));
       swept = all_swept_but old new c.args.file c.forget_file.ensures.others (λ idle. c.forget_file.ensures.gone) c.args.self.now.swept;
       kept = kept_file_forgotten c.args.self.now.holdings c.leave_file.new.self (table_state old) (table_state new) (through_at c.args.self.now.openings)
           (through_at c.forget_file-2.new.self) c.args.file c.leave_file.ensures c.forget_file.ensures.forgets c.forget_file-2.ensures c.args.self.now.kept;

@@ -1,9 +1,8 @@
 use Rattle.std.proofs.Math.Logic.{∥∥₁_map}
 use Rattle.lock_server.specs.OpeningsView.{through_at}
-use Rattle.lock_server.specs.TableView.{table_policy, table_state}
+use Rattle.lock_server.specs.TableView.{table_state}
 use Rattle.lock_server.proofs.HoldingLemmas.{kept_owners_forgotten}
 use Rattle.lock_server.proofs.SafeClientLemmas.{safe_owners_forgotten}
-use Rattle.lock_server.proofs.ServerLemmas.{safe_at}
 use Rattle.lock_server.proofs.TakenLemmas.{tickets_once}
 use Rattle.lock_server.proofs.server.LockServer.forget_owners.Goals as goal
 
@@ -13,10 +12,9 @@ invariant_of-self c =
     let new = c.forget_owners.new.self in
     record {
       safe = ∥∥₁_map c.args.self.now.safe (λ safe.
-          safe_at (table_policy old) new c.forget_owners.ensures.policy
-          (safe_owners_forgotten (table_policy old) (table_state old) c.args.first c.args.last (table_state new) safe c.forget_owners.ensures.forgets (tickets_once new)));
+          safe_owners_forgotten _ (table_state old) c.args.first c.args.last (table_state new) safe c.forget_owners.ensures.forgets (tickets_once new));
       swept = c.forget_owners.ensures.swept c.args.self.now.swept;
-      kept = kept_owners_forgotten (table_policy old) c.args.self.now.holdings c.leave_all.new.self (table_state old) (table_state new) (through_at c.args.self.now.openings)
+      kept = kept_owners_forgotten _ c.args.self.now.holdings c.leave_all.new.self (table_state old) (table_state new) (through_at c.args.self.now.openings)
           (through_at c.forget_owners-2.new.self) c.args.first c.args.last c.forget_owners.ensures.forgets c.forget_owners-2.ensures c.leave_all.ensures.gone c.leave_all.ensures.others
           c.args.self.now.kept;
     }

@@ -5,7 +5,7 @@ use Rattle.lock_server.specs.OpeningsView.{through_at}
 use Rattle.lock_server.specs.Reading.{Always, told_by}
 use Rattle.lock_server.specs.ServerView.{rules_of, state_of, through_of}
 use Rattle.lock_server.specs.States.{SameState}
-use Rattle.lock_server.specs.TableView.{table_policy, table_state}
+use Rattle.lock_server.specs.TableView.{table_state}
 use Rattle.lock_server.proofs.CompleteLemmas.{are_of, made_has, may_be_told, notes_told, ordered, refutes, refutes_wanting, told_of}
 use Rattle.lock_server.proofs.server.LockServer.import.Goals as goal
 
@@ -52,6 +52,5 @@ returns-clause-invalid c invalid server export =
     ∥∥₁_elim server.safe ⊥_prop (λ safe.
     let same = c.in_ok-table.ensures.again (state_of server) (are_of server bytes export parts told safe) in
     let notes = c.in_ok-openings.ensures (through_of server) (notes_told server bytes export parts told) in
-    let has = c.in_ok-has_export.ensures.1 (made_has server bytes export parts told (table_policy table) (table_state table)
-    (through_at c.in_ok-openings.openings) c.in_ok-table.ensures.policy same notes) in
+    let has = c.in_ok-has_export.ensures.1 (made_has server bytes export parts told (table_state table) (through_at c.in_ok-openings.openings) same notes) in
     let h : false ≡ true = sym c.if-branch.false ∙ has in cc)

@@ -16,7 +16,6 @@ returns-in_default c = record {
     not_pending c.args.self.now c.args.ticket (λ file is. (let h : None ≡ Some (Waits file) = sym c.in_default.is ∙ c.place.ensures ∙ is in cc)),
     record { files = λ file. SameFile-itself _; grants = refl; crossed = λ owner. refl },
   );
-  policy = refl;
   others = tt;
   entries = λ file. refl;
 }
@@ -31,7 +30,6 @@ returns-in-Reserved c =
       some = tt;
       wait = tt;
       none = (not_pending c.args.self.now c.args.ticket none, record { files = λ file. SameFile-itself _; grants = refl; crossed = λ owner. refl });
-      policy = refl;
       others = tt;
       entries = λ file. refl;
     }

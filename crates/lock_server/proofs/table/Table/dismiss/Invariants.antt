@@ -1,13 +1,12 @@
-use Rattle.std.proofs.Common.{◌≡◌, length}
+use Rattle.std.proofs.Common.{length}
 use Rattle.lock_server.specs.Pendings.{is_byte_wait}
-use Rattle.lock_server.specs.TableView.{KeepsOthers, table_policy, table_state}
+use Rattle.lock_server.specs.TableView.{KeepsOthers, table_state}
 use Rattle.lock_server.proofs.ForgetLemmas.{IsDismissing}
 use Rattle.lock_server.proofs.table.Table.dismiss.Given as goal
 
 abbrev pub invariant-loop : goal.invariant-loop
 invariant-loop l = record {
   dismissing : IsDismissing (table_state l.fn.self) l.file (is_byte_wait l.owner) (table_state l.self);
-  policy : table_policy l.self ≡ table_policy l.fn.self;
   others : KeepsOthers l.fn.self l.self l.file;
 }
 

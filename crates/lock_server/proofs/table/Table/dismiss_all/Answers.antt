@@ -15,7 +15,6 @@ pub loop-preserved : goal.loop-preserved
 loop-preserved c = record {
   dismissing = dismissing_more (table_state c.args.self.now) c.args.file (is_leaving All) (table_state c.loop.self) (table_state c.dismiss_one.new.self) c.loop.invariant.dismissing
       (c.dismiss_one.ensures.one c.loop-test.true);
-  policy = c.dismiss_one.ensures.policy ∙ c.loop.invariant.policy;
   others = λ other differs. c.dismiss_one.ensures.others other differs ∙ c.loop.invariant.others other differs;
 }
 

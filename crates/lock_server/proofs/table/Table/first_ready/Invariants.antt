@@ -1,11 +1,11 @@
 use Rattle.std.proofs.Common.{ℕ, ◌-◌, ◌^◌, ◌<◌}
 use Rattle.lock_server.specs.Settling.{IsSettled}
-use Rattle.lock_server.specs.TableView.{table_policy, table_state}
+use Rattle.lock_server.specs.TableView.{table_state}
 use Rattle.lock_server.proofs.ForgetLemmas.{next_of}
 use Rattle.lock_server.proofs.table.Table.first_ready.Given as goal
 
 abbrev pub invariant-loop-file : goal.invariant-loop-file
-invariant-loop-file l = (file : ℕ) → file < next_of l.above → IsSettled (table_policy l.self) ((table_state l.self).files file)
+invariant-loop-file l = (file : ℕ) → file < next_of l.above → IsSettled l.policy ((table_state l.self).files file)
 
 -- each file is above the one before
 abbrev pub decreases-loop-file : goal.decreases-loop-file

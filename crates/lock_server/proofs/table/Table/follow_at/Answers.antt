@@ -4,7 +4,7 @@ use Rattle.std.proofs.lemmas.Option.{same_Some}
 use Rattle.lock_server.specs.declared.Pending.{Pending}
 use Rattle.lock_server.specs.Deadlock.{IsBlockedByOwner}
 use Rattle.lock_server.specs.LookedAt.{Follows}
-use Rattle.lock_server.specs.TableView.{table_policy, table_state}
+use Rattle.lock_server.specs.TableView.{table_state}
 use Rattle.lock_server.proofs.table.Table.follow_at.Goals as goal
 
 pub follow_wait-requires : goal.follow_wait-requires
@@ -19,7 +19,7 @@ returns-in-Some c = λ wait at.
     let table = c.args.self.now in
     let F = (table_state table).files c.args.file in
     let same : c.in-Some.wait ≡ wait = same_Some c.in-Some.wait wait (sym c.in-Some.is ∙ (c.wait_on.ensures.is ∙ at)) in
-    subst (λ (w : Pending). OnOk c.follow_wait.result (Follows table c.args.target (IsBlockedByOwner (table_policy table) F (take c.args.place F.waits) w) c.args.reached.now c.follow_wait.new.reached)) same
+    subst (λ (w : Pending). OnOk c.follow_wait.result (Follows table c.args.target (IsBlockedByOwner c.args.policy F (take c.args.place F.waits) w) c.args.reached.now c.follow_wait.new.reached)) same
     c.follow_wait.ensures
 
 pub returns-in-None : goal.returns-in-None

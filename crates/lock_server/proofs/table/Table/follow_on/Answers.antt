@@ -3,14 +3,14 @@ use Rattle.std.proofs.lemmas.Grind.{common_steps}
 use Rattle.std.proofs.lemmas.Option.{same_Some}
 use Rattle.lock_server.specs.declared.Pending.{Pending}
 use Rattle.lock_server.specs.Blockers.{IsNextDetected, IsNoneDetected}
-use Rattle.lock_server.specs.TableView.{table_policy, table_state}
+use Rattle.lock_server.specs.TableView.{table_state}
 use Rattle.lock_server.proofs.BlockerLemmas.{IsStepAt}
 use Rattle.lock_server.proofs.FollowLemmas.{given_none, wait_more, waits_all, waits_up_to}
 use Rattle.lock_server.proofs.table.Table.follow_on.Goals as goal
 
 pub loop-place-init : goal.loop-place-init
 loop-place-init c =
-    given_none c.args.self.now c.args.target (IsStepAt (table_policy c.args.self.now) ((table_state c.args.self.now).files c.args.file) c.args.owner)
+    given_none c.args.self.now c.args.target (IsStepAt c.args.policy ((table_state c.args.self.now).files c.args.file) c.args.owner)
     ((table_state c.args.self.now).files c.args.file).waits c.args.reached.now c.requires.told
 
 pub follow_at-requires : goal.follow_at-requires
@@ -30,8 +30,8 @@ loop-place-preserved c =
     let table = c.args.self.now in
     let next : IsNextDetected ((table_state table).files c.args.file).waits c.args.owner c.loop-place.from c.in-Some.place = c.in-Some.ensures.some in
     let found = next.is in
-    wait_more table c.args.target c.args.file c.args.owner c.args.reached.now c.in-Some.place found.0 c.loop-place.reached c.follow_at.new.reached found.1 found
-    (waits_up_to table c.args.target c.args.file c.args.owner c.args.reached.now c.loop-place.from c.in-Some.place c.loop-place.reached next
+    wait_more c.args.policy table c.args.target c.args.file c.args.owner c.args.reached.now c.in-Some.place found.0 c.loop-place.reached c.follow_at.new.reached found.1 found
+    (waits_up_to c.args.policy table c.args.target c.args.file c.args.owner c.args.reached.now c.loop-place.from c.in-Some.place c.loop-place.reached next
     c.loop-place.invariant) (c.in_ok-follow_at.ensures found.0 found.1)
 
 pub loop-place-smaller : goal.loop-place-smaller
@@ -43,4 +43,4 @@ loop-place-smaller c =
 pub returns : goal.returns
 returns c =
     let none : IsNoneDetected ((table_state c.args.self.now).files c.args.file).waits c.args.owner c.loop-place.from = c.in_default.ensures.none in
-    waits_all c.args.self.now c.args.target c.args.file c.args.owner c.args.reached.now c.loop-place.from c.loop-place.reached none c.loop-place.invariant
+    waits_all c.args.policy c.args.self.now c.args.target c.args.file c.args.owner c.args.reached.now c.loop-place.from c.loop-place.reached none c.loop-place.invariant

@@ -1,6 +1,6 @@
 use Rattle.std.proofs.Common.{◌-◌, ◌^◌}
 use Rattle.lock_server.specs.LookedAt.{Follows}
-use Rattle.lock_server.specs.TableView.{table_policy, table_state}
+use Rattle.lock_server.specs.TableView.{table_state}
 use Rattle.lock_server.proofs.BlockerLemmas.{IsStepAt}
 use Rattle.lock_server.proofs.GatheredOwnerLemmas.{IsGivenBefore}
 use Rattle.lock_server.proofs.table.Table.follow_on.Given as goal
@@ -8,7 +8,7 @@ use Rattle.lock_server.proofs.table.Table.follow_on.Given as goal
 abbrev pub invariant-loop-place : goal.invariant-loop-place
 invariant-loop-place l =
     Follows l.self l.target
-    (IsGivenBefore (IsStepAt (table_policy l.self) ((table_state l.self).files l.file) l.owner) ((table_state l.self).files l.file).waits l.from)
+    (IsGivenBefore (IsStepAt l.policy ((table_state l.self).files l.file) l.owner) ((table_state l.self).files l.file).waits l.from)
     l.initial.reached l.reached
 
 abbrev pub decreases-loop-place : goal.decreases-loop-place

@@ -1,16 +1,14 @@
 use Rattle.std.proofs.Common.{[], None, subst, sym}
 use Rattle.lock_server.specs.Files.{SetsFlock, FileState}
 use Rattle.lock_server.specs.Freed.{Frees}
-use Rattle.lock_server.specs.TableView.{table_policy}
 use Rattle.lock_server.proofs.FreedLemmas.{any_but}
 use Rattle.lock_server.proofs.TableLemmas.{found_state}
 use Rattle.lock_server.proofs.table.Table.freed_by_flock_release.Goals as goal
 
 pub returns-in-Some : goal.returns-in-Some
-unfolding table_policy
-returns-in-Some c =
-    subst (λ (F : FileState). Frees c.args.self.now.policy F (SetsFlock F c.args.owner None) c.freed_by_flock_release.result)
-    (sym (found_state c.args.self.now c.args.file c.get.result c.in-Some.locks c.get.ensures.value c.in-Some.is)) (c.freed_by_flock_release.ensures c.args.self.now.policy)
+returns-in-Some c = λ policy.
+    subst (λ (F : FileState). Frees policy F (SetsFlock F c.args.owner None) c.freed_by_flock_release.result)
+    (sym (found_state c.args.self.now c.args.file c.get.result c.in-Some.locks c.get.ensures.value c.in-Some.is)) (c.freed_by_flock_release.ensures policy)
 
 pub returns-in-None : goal.returns-in-None
-returns-in-None c = λ G changed waits settled. any_but (table_policy c.args.self.now) G [] G.waits
+returns-in-None c = λ policy G changed waits settled. any_but policy G [] G.waits

@@ -2,19 +2,18 @@ use Rattle.std.proofs.Common.{ℕ, ◌≡◌, ◌++◌, ◌∙◌, ◌⊎◌, ar
 use Rattle.lock_server.specs.Blockers.{IsGoingOn}
 use Rattle.lock_server.specs.Deadlock.{WaitsFor}
 use Rattle.lock_server.specs.LookedAt.{Follows}
-use Rattle.lock_server.specs.TableView.{table_policy, table_state}
+use Rattle.lock_server.specs.TableView.{table_state}
 use Rattle.lock_server.proofs.ReachedLemmas.{read_at, read_past, step_goes_on}
 use Rattle.lock_server.proofs.SearchLemmas.{searched_all, searched_found, searched_more}
 use Rattle.lock_server.proofs.table.Table.leads_to.Goals as goal
 
 pub returns-then-owner-target : goal.returns-then-owner-target
-unfolding table_policy
 returns-then-owner-target c =
     let table = c.args.self.now in
     let reached = c.loop-owner.reached.owners.items in
     let here = read_at reached c.loop-owner.looked_at c.in-Some.owner (sym c.get.ensures ∙ c.in-Some.is) in
     let among : Contains reached c.in-Some.owner = (c.loop-owner.looked_at, here.0, sym here.1) in
-    let found = searched_found (WaitsFor table.policy (table_state table)) (IsGoingOn table.waiters c.args.target) c.args.target c.args.reached.owners.items reached
+    let found = searched_found (WaitsFor c.args.policy (table_state table)) (IsGoingOn table.waiters c.args.target) c.args.target c.args.reached.owners.items reached
     c.loop-owner.looked_at c.loop-owner.invariant.searched (subst (λ (n : ℕ). Contains reached n) c.if-owner-target.true among) in
     (λ yes. record { owner = found.0; among = found.1; leads = found.2 }, λ some. refl)
 
@@ -24,12 +23,11 @@ follow-requires c =
     record { told = c.loop-owner.invariant.told; among = (c.loop-owner.looked_at, here.0, sym here.1) }
 
 pub loop-owner-preserved : goal.loop-owner-preserved
-unfolding table_policy
 loop-owner-preserved c =
     let table = c.args.self.now in
     let reached = c.loop-owner.reached.owners.items in
     let here = read_at reached c.loop-owner.looked_at c.in-Some.owner (sym c.get.ensures ∙ c.in-Some.is) in
-    let R = WaitsFor table.policy (table_state table) in
+    let R = WaitsFor c.args.policy (table_state table) in
     let follows : Follows table c.args.target (R c.in-Some.owner) c.loop-owner.reached c.follow.new.reached = c.in_ok-follow.ensures in
     let going = follows.adds in
     let only : (other : ℕ) → Contains (reached ++ going.more) other → Contains reached other ⊎ R c.in-Some.owner other =
@@ -43,12 +41,11 @@ loop-owner-preserved c =
     }
 
 pub returns : goal.returns
-unfolding table_policy
 returns c =
     let table = c.args.self.now in
     let past = read_past c.loop-owner.reached.owners.items c.loop-owner.looked_at (sym c.get.ensures ∙ c.in_default.is) in (
       λ yes. absurd (let h : false ≡ true = yes in cc),
       λ some.
-          absurd (searched_all (WaitsFor table.policy (table_state table)) (IsGoingOn table.waiters c.args.target) c.args.target c.args.reached.owners.items c.loop-owner.reached.owners.items
-          c.loop-owner.looked_at (inl refl) (λ p q step. step_goes_on table c.args.target p q step) c.loop-owner.invariant.searched (omega arith) some.owner some.among some.leads),
+          absurd (searched_all (WaitsFor c.args.policy (table_state table)) (IsGoingOn table.waiters c.args.target) c.args.target c.args.reached.owners.items c.loop-owner.reached.owners.items
+          c.loop-owner.looked_at (inl refl) (λ p q step. step_goes_on c.args.policy table c.args.target p q step) c.loop-owner.invariant.searched (omega arith) some.owner some.among some.leads),
     )

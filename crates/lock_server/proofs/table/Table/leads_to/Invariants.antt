@@ -8,7 +8,7 @@ use Rattle.lock_server.proofs.table.Table.leads_to.Given as goal
 
 abbrev pub invariant-loop-owner : goal.invariant-loop-owner
 invariant-loop-owner l = record {
-  searched : IsSearched (WaitsFor l.self.policy (table_state l.self)) (IsGoingOn l.self.waiters l.target) l.target l.initial.reached.owners.items l.reached.owners.items l.looked_at;
+  searched : IsSearched (WaitsFor l.policy (table_state l.self)) (IsGoingOn l.self.waiters l.target) l.target l.initial.reached.owners.items l.reached.owners.items l.looked_at;
   told : AreTold l.self l.target l.reached;
 }
 

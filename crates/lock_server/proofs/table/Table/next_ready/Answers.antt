@@ -1,12 +1,10 @@
 use Rattle.std.proofs.Common.{subst}
 use Rattle.lock_server.specs.Files.{FileState}
 use Rattle.lock_server.specs.Freed.{IsKnown}
-use Rattle.lock_server.specs.TableView.{table_policy}
 use Rattle.lock_server.proofs.TableLemmas.{found_state}
 use Rattle.lock_server.proofs.table.Table.next_ready.Goals as goal
 
 pub next_ready-requires : goal.next_ready-requires
-unfolding table_policy
 next_ready-requires c =
-    subst (λ (F : FileState). IsKnown c.args.self.now.policy F c.args.known)
+    subst (λ (F : FileState). IsKnown c.args.policy F c.args.known)
     (found_state c.args.self.now c.args.file c.get.result c.in_ok-get.field-0 c.get.ensures.value c.in_ok-get.was) c.requires

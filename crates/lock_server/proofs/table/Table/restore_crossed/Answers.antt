@@ -8,7 +8,6 @@ use Rattle.lock_server.proofs.table.Table.restore_crossed.Goals as goal
 pub loop-owner-init : goal.loop-owner-init
 loop-owner-init c = record {
   crosses = record { files = λ file. SameFile-itself _; grants = refl; crossed = crosses_itself c.args.self.now };
-  policy = refl;
   entries = λ file. refl;
 }
 
@@ -16,7 +15,6 @@ pub loop-owner-preserved : goal.loop-owner-preserved
 loop-owner-preserved c = record {
   crosses = crosses_next (table_state c.args.self.now) c.args.owners.now c.loop-owner.owner-index (table_state c.loop-owner.self) (table_state c.cross.new.self) c.loop-owner-test.true
       c.loop-owner.invariant.crosses c.cross.ensures.crosses;
-  policy = c.cross.ensures.policy ∙ c.loop-owner.invariant.policy;
   entries = λ file. c.cross.ensures.entries file ∙ c.loop-owner.invariant.entries file;
 }
 

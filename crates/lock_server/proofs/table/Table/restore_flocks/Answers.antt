@@ -41,7 +41,6 @@ loop-i-preserved c =
           (λ held. let back = c.holds_back.ensures.1 (subst (λ (w : Pending). IsHeldBack (M.files c.args.file) w) (sym c.flock_request-wanted.ensures) held) in let none = c.if-holds_back.false in cc)
           (subst (λ (U : State). SetsOn U c.args.file Whole lock.owner whole_file (Some lock.mode) (table_state c.set_flock.new.self))
           (state_from_same M (table_state c.place_flock.new.self) c.place_flock.ensures.same) c.set_flock.ensures.sets);
-      policy = c.set_flock.ensures.policy ∙ c.place_flock.ensures.policy ∙ c.loop-i.invariant.policy;
       swept = λ swept. all_swept_but c.loop-i.self c.set_flock.new.self c.args.file (λ other differs. c.set_flock.ensures.others other differs ∙ c.place_flock.ensures.others other differs)
           (swept_set_flock c.set_flock.new.self c.args.file ((table_state c.place_flock.new.self).files c.args.file) lock.owner lock.mode c.set_flock.ensures.sets.sets)
           (c.loop-i.invariant.swept swept);

@@ -16,7 +16,6 @@ pub loop-i-preserved : goal.loop-i-preserved
 loop-i-preserved c = record {
   queues = queues_next (table_state c.args.self.now) c.args.tickets.now c.loop-i.i (table_state c.loop-i.self) (table_state c.queue.new.self) c.loop-i-test.true
       c.loop-i.invariant.queues c.in_ok-queue.ensures.queues;
-  policy = c.queue.ensures.policy ∙ c.loop-i.invariant.policy;
   entries = λ file. c.queue.ensures.entries file ∙ c.loop-i.invariant.entries file;
 }
 

@@ -1,11 +1,10 @@
-use Rattle.std.proofs.Common.{◌≡◌, take}
+use Rattle.std.proofs.Common.{take}
 use Rattle.lock_server.specs.Restoring.{QueuesEach}
-use Rattle.lock_server.specs.TableView.{KeepsEntries, table_policy, table_state}
+use Rattle.lock_server.specs.TableView.{KeepsEntries, table_state}
 use Rattle.lock_server.proofs.table.Table.restore_grants.Given as goal
 
 abbrev pub invariant-loop-i : goal.invariant-loop-i
 invariant-loop-i l = record {
   queues : QueuesEach (table_state l.initial.self) (take l.i l.tickets) (table_state l.self);
-  policy : table_policy l.self ≡ table_policy l.initial.self;
   entries : KeepsEntries l.initial.self l.self;
 }

@@ -1,4 +1,4 @@
-use Rattle.std.proofs.Common.{◌∙◌, get_or, subst, sym}
+use Rattle.std.proofs.Common.{get_or, subst, sym}
 use Rattle.std.proofs.lemmas.Option.{slice_get-get_or}
 use Rattle.range_core.specs.declared.Mode.TheVariants.{Read}
 use Rattle.lock_server.specs.declared.Lock.{Lock}
@@ -35,7 +35,6 @@ loop-i-preserved c =
       sets = sets_next lock_request (table_state c.args.self.now) c.args.file c.args.locks.now c.loop-i.i d M (table_state c.set.new.self) c.loop-i-test.true c.loop-i.invariant.sets
           (λ held. let back = c.holds_back.ensures.1 (subst (λ (w : Pending). IsHeldBack (M.files c.args.file) w) (sym c.byte_request-wanted.ensures) held) in let none = c.if-holds_back.false in cc)
           c.in_ok-set.ensures.ok;
-      policy = c.set.ensures.policy ∙ c.loop-i.invariant.policy;
       swept = λ swept. all_swept_but c.loop-i.self c.set.new.self c.args.file c.set.ensures.others
           (swept_set c.set.new.self c.args.file (M.files c.args.file) lock.owner lock.span lock.mode (c.requires c.loop-i.i d c.loop-i-test.true) c.in_ok-set.ensures.ok.sets)
           (c.loop-i.invariant.swept swept);

@@ -1,11 +1,10 @@
-use Rattle.std.proofs.Common.{◌≡◌, map, take}
+use Rattle.std.proofs.Common.{map, take}
 use Rattle.lock_server.specs.Restoring.{SetsEach, lock_request}
-use Rattle.lock_server.specs.TableView.{AreSwept, table_policy, table_state}
+use Rattle.lock_server.specs.TableView.{AreSwept, table_state}
 use Rattle.lock_server.proofs.table.Table.restore_locks.Given as goal
 
 abbrev pub invariant-loop-i : goal.invariant-loop-i
 invariant-loop-i l = record {
   sets : SetsEach (table_state l.initial.self) l.file (map lock_request (take l.i l.locks)) (table_state l.self);
-  policy : table_policy l.self ≡ table_policy l.initial.self;
   swept : AreSwept l.initial.self → AreSwept l.self;
 }

@@ -36,7 +36,6 @@ loop-i-preserved c =
     record {
       joins = joins_next (table_state c.args.self.now) c.args.file c.args.waits.now c.loop-i.i d M (table_state c.join.new.self) c.loop-i-test.true c.loop-i.invariant.joins
           (λ taken. let yes = c.is_taken.ensures.1 taken in let no = c.if-is_taken.false in cc) suspends;
-      policy = c.join.ensures.policy ∙ c.reserve.ensures.policy ∙ c.loop-i.invariant.policy;
       swept = λ swept. all_swept_but c.loop-i.self c.join.new.self c.args.file
           (λ other differs. c.join.ensures.others other differs ∙ c.reserve.ensures.others other differs)
           (swept_with_wait c.join.new.self c.args.file _ _ suspends.joins.waits) (c.loop-i.invariant.swept swept);

@@ -1,13 +1,12 @@
-use Rattle.std.proofs.Common.{◌≡◌, ◌-◌, ◌^◌}
-use Rattle.lock_server.specs.TableView.{AreSwept, table_policy, table_state}
+use Rattle.std.proofs.Common.{◌-◌, ◌^◌}
+use Rattle.lock_server.specs.TableView.{AreSwept, table_state}
 use Rattle.lock_server.proofs.ClientLemmas.{IsSettling}
 use Rattle.lock_server.proofs.ForgetLemmas.{next_of}
 use Rattle.lock_server.proofs.table.Table.settle_all.Given as goal
 
 abbrev pub invariant-loop-file : goal.invariant-loop-file
 invariant-loop-file l = record {
-  settling : IsSettling (table_policy l.initial.self) (table_state l.initial.self) (next_of l.above) (table_state l.self);
-  policy : table_policy l.self ≡ table_policy l.initial.self;
+  settling : IsSettling l.policy (table_state l.initial.self) (next_of l.above) (table_state l.self);
   swept : AreSwept l.initial.self → AreSwept l.self;
 }
 

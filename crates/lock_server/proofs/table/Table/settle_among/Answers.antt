@@ -1,9 +1,8 @@
 use Rattle.std.proofs.lemmas.Grind.{common_steps}
 use Rattle.std.proofs.Common.{◌∙◌, arith, refl, subst, sym}
-use Rattle.wait_core.specs.declared.Policy.{Policy}
 use Rattle.lock_server.specs.Settling.{IsSettled}
-use Rattle.lock_server.specs.States.{GrantsOn, SettlesFile, State}
-use Rattle.lock_server.specs.TableView.{table_policy, table_state}
+use Rattle.lock_server.specs.States.{SettlesFile, State}
+use Rattle.lock_server.specs.TableView.{table_state}
 use Rattle.lock_server.proofs.GrantedMoves.{KeepsRoomOn-itself, KeepsRoomOn-then, crosses_itself}
 use Rattle.lock_server.proofs.SettleLemmas.{fewer_waits, leads_more, leads_nowhere, settled_here}
 use Rattle.lock_server.proofs.StateLemmas.{state_from_same}
@@ -12,9 +11,8 @@ use Rattle.lock_server.proofs.table.Table.settle_among.Goals as goal
 pub loop-still-init : goal.loop-still-init
 loop-still-init c =
     let table = c.args.self.now in record {
-      led = leads_nowhere (table_policy table) (table_state table) c.args.file (crosses_itself table);
+      led = leads_nowhere c.args.policy (table_state table) c.args.file (crosses_itself table);
       room = KeepsRoomOn-itself table c.args.file;
-      policy = refl;
       others = λ other differs. refl;
       file = refl;
       known = record { earliest = tt; others = c.requires };
@@ -26,10 +24,9 @@ loop-still-preserved c =
     let before = c.loop-still.self in
     let after = c.grant_next.new.self in
     let granted = c.in-Some.ensures.granted in
-    let grants = subst (λ (policy : Policy). GrantsOn policy (table_state before) c.args.file granted.0 (table_state after)) c.loop-still.invariant.policy granted.1 in record {
-      led = leads_more (table_policy table) (table_state table) c.args.file (table_state before) granted.0 (table_state after) c.loop-still.invariant.led grants;
+    record {
+      led = leads_more c.args.policy (table_state table) c.args.file (table_state before) granted.0 (table_state after) c.loop-still.invariant.led granted.1;
       room = KeepsRoomOn-then table before after c.args.file c.loop-still.invariant.room c.grant_next.ensures.room;
-      policy = c.grant_next.ensures.policy ∙ c.loop-still.invariant.policy;
       others = λ other differs. c.grant_next.ensures.others other differs ∙ c.loop-still.invariant.others other differs;
       file = refl;
       known = c.in-Some.ensures.known;
@@ -44,17 +41,16 @@ returns-clause-settles c =
     let before = c.loop-still.self in
     let after = c.grant_next.new.self in
     let settled = c.in_default.ensures.settled in
-    subst (λ (T : State). SettlesFile (table_policy table) (table_state table) c.args.file T) (sym (state_from_same (table_state before) (table_state after) settled.1))
-    (settled_here (table_policy table) (table_state table) c.args.file (table_state before) c.loop-still.invariant.led
-    (subst (λ (policy : Policy). IsSettled policy ((table_state before).files c.args.file)) c.loop-still.invariant.policy settled.0))
+    subst (λ (T : State). SettlesFile c.args.policy (table_state table) c.args.file T) (sym (state_from_same (table_state before) (table_state after) settled.1))
+    (settled_here c.args.policy (table_state table) c.args.file (table_state before) c.loop-still.invariant.led settled.0)
 
 pub returns-clause-settled : goal.returns-clause-settled
 returns-clause-settled c =
     let before = c.loop-still.self in
     let after = c.grant_next.new.self in
     let settled = c.in_default.ensures.settled in
-    subst (λ (T : State). IsSettled (table_policy after) (T.files c.args.file)) (sym (state_from_same (table_state before) (table_state after) settled.1))
-    (subst (λ (policy : Policy). IsSettled policy ((table_state before).files c.args.file)) (sym c.grant_next.ensures.policy) settled.0)
+    subst (λ (T : State). IsSettled c.args.policy (T.files c.args.file)) (sym (state_from_same (table_state before) (table_state after) settled.1))
+    settled.0
 
 pub returns-clause-room : goal.returns-clause-room
 returns-clause-room c =

@@ -1,7 +1,7 @@
 use Rattle.std.proofs.Common.{◌≡◌, length}
 use Rattle.lock_server.specs.Freed.{IsKnown}
 use Rattle.lock_server.specs.TableRoom.{KeepsRoomOn}
-use Rattle.lock_server.specs.TableView.{KeepsOthers, table_policy, table_state}
+use Rattle.lock_server.specs.TableView.{KeepsOthers, table_state}
 use Rattle.lock_server.proofs.SettleLemmas.{HasLedOn}
 use Rattle.lock_server.proofs.table.Table.settle_among.Given as goal
 
@@ -9,12 +9,11 @@ use Rattle.lock_server.proofs.table.Table.settle_among.Given as goal
 abbrev pub invariant-loop-still : goal.invariant-loop-still
 invariant-loop-still l =
     record {
-      led : HasLedOn (table_policy l.fn.self) (table_state l.fn.self) l.file (table_state l.self);
+      led : HasLedOn l.policy (table_state l.fn.self) l.file (table_state l.self);
       room : KeepsRoomOn l.fn.self l.self l.file;
-      policy : table_policy l.self ≡ table_policy l.fn.self;
       others : KeepsOthers l.fn.self l.self l.file;
       file : l.file ≡ l.fn.file;
-      known : IsKnown (table_policy l.self) ((table_state l.self).files l.file) l.known;
+      known : IsKnown l.policy ((table_state l.self).files l.file) l.known;
     }
 
 abbrev pub decreases-loop-still : goal.decreases-loop-still

@@ -1,14 +1,13 @@
-use Rattle.std.proofs.Common.{◌≡◌, length}
+use Rattle.std.proofs.Common.{length}
 use Rattle.lock_server.specs.declared.leaving.Leaving.TheVariants.{Of}
 use Rattle.lock_server.specs.Leaving.{is_leaving}
-use Rattle.lock_server.specs.TableView.{KeepsOthers, table_policy, table_state}
+use Rattle.lock_server.specs.TableView.{KeepsOthers, table_state}
 use Rattle.lock_server.proofs.ForgetLemmas.{IsDismissing}
 use Rattle.lock_server.proofs.table.Table.strip.Given as goal
 
 abbrev pub invariant-loop : goal.invariant-loop
 invariant-loop l = record {
   dismissing : IsDismissing (table_state l.fn.self) l.file (is_leaving (Of l.owners)) (table_state l.self);
-  policy : table_policy l.self ≡ table_policy l.fn.self;
   others : KeepsOthers l.fn.self l.self l.file;
 }
 

@@ -1,4 +1,4 @@
-use Rattle.std.proofs.Common.{◌∙◌, arith, refl}
+use Rattle.std.proofs.Common.{◌∙◌, arith}
 use Rattle.lock_server.specs.Clients.{is_within}
 use Rattle.lock_server.specs.TableView.{table_state}
 use Rattle.lock_server.proofs.ClientLemmas.{all_files_stripped, stripping_more, stripping_none}
@@ -10,7 +10,6 @@ use Rattle.lock_server.proofs.table.Table.strip_all.Goals as goal
 pub loop-file-init : goal.loop-file-init
 loop-file-init c = record {
   stripping = stripping_none (table_state c.args.self.now) (is_within c.args.owners.first c.args.owners.last) (crosses_itself c.args.self.now);
-  policy = refl;
   swept = λ swept. swept;
 }
 
@@ -19,7 +18,6 @@ loop-file-preserved c = record {
   stripping = stripping_more (table_state c.args.self.now) (is_within c.args.owners.first c.args.owners.last) (next_of c.loop-file.above) (table_state c.loop-file.self) c.in-Some.file
       (table_state c.strip.new.self) (table_state c.sweep.new.self) c.loop-file.invariant.stripping (next_from_above c.loop-file.above c.in-Some.file c.in-Some.ensures.above)
       (λ other from before. c.in-Some.ensures.least other (above_from_next c.loop-file.above other from) before) c.strip.ensures.strips c.sweep.ensures.same;
-  policy = c.sweep.ensures.policy ∙ c.strip.ensures.policy ∙ c.loop-file.invariant.policy;
   swept = λ swept. all_swept_but c.loop-file.self c.sweep.new.self c.in-Some.file
       (λ other differs. c.sweep.ensures.others other differs ∙ c.strip.ensures.others other differs)
       c.sweep.ensures.gone (c.loop-file.invariant.swept swept);

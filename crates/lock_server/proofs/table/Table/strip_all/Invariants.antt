@@ -1,6 +1,6 @@
-use Rattle.std.proofs.Common.{◌≡◌, ◌-◌, ◌^◌}
+use Rattle.std.proofs.Common.{◌-◌, ◌^◌}
 use Rattle.lock_server.specs.Clients.{is_within}
-use Rattle.lock_server.specs.TableView.{AreSwept, table_policy, table_state}
+use Rattle.lock_server.specs.TableView.{AreSwept, table_state}
 use Rattle.lock_server.proofs.ClientLemmas.{IsStripping}
 use Rattle.lock_server.proofs.ForgetLemmas.{next_of}
 use Rattle.lock_server.proofs.table.Table.strip_all.Given as goal
@@ -8,7 +8,6 @@ use Rattle.lock_server.proofs.table.Table.strip_all.Given as goal
 abbrev pub invariant-loop-file : goal.invariant-loop-file
 invariant-loop-file l = record {
   stripping : IsStripping (table_state l.initial.self) (is_within l.owners.first l.owners.last) (next_of l.above) (table_state l.self);
-  policy : table_policy l.self ≡ table_policy l.initial.self;
   swept : AreSwept l.initial.self → AreSwept l.self;
 }
 

@@ -3,7 +3,7 @@ use Rattle.std.proofs.Common.{[], ◌∙◌, ap, Contains}
 use Rattle.lock_server.specs.Blockers.{AddsGoingOn, AddsOwners}
 use Rattle.lock_server.specs.Deadlock.{IsBlockedByOwner}
 use Rattle.lock_server.specs.LookedAt.{looked_modes}
-use Rattle.lock_server.specs.TableView.{table_policy, table_state}
+use Rattle.lock_server.specs.TableView.{table_state}
 use Rattle.lock_server.specs.declared.table.looked_at.LookedAt.{LookedAt}
 use Rattle.lock_server.proofs.FollowLemmas.{told_none}
 use Rattle.lock_server.proofs.ReachedLemmas.{closes_cycle}
@@ -20,7 +20,7 @@ returns c =
     let wanted = c.args.wanted.now in
     let blockers = c.add_blockers.new.owners.items in
     let reached = c.add_going_on.new.reached.owners.items in
-    let adds : AddsOwners [] blockers (IsBlockedByOwner (table_policy table) ((table_state table).files c.args.file) ((table_state table).files c.args.file).waits wanted) =
+    let adds : AddsOwners [] blockers (IsBlockedByOwner c.args.policy ((table_state table).files c.args.file) ((table_state table).files c.args.file).waits wanted) =
     rw c.new-blockers.ensures.items at c.in_ok-add_blockers.ensures in
     let going : AddsGoingOn table.waiters wanted.owner (Contains blockers) [] reached = rw (c.deref.ensures.value, c.new-reached.ensures.owners) at c.in_ok-add_going_on.ensures.adds in
-    IfOk-weaker c.leads_to.result _ _ (λ answer says. closes_cycle table c.args.file wanted blockers reached answer adds going says) c.leads_to.ensures
+    IfOk-weaker c.leads_to.result _ _ (λ answer says. closes_cycle c.args.policy table c.args.file wanted blockers reached answer adds going says) c.leads_to.ensures

@@ -30,7 +30,6 @@ loop-i-preserved c =
     let here : SetsOnFile M part T = record { between = B; locks = locks; flocks = flocks } in
     record {
       sets = sets_next (table_state c.args.table.now) files c.loop-i.i part M T within c.loop-i.invariant.sets (subst (λ (p : FilePart). SetsOnFile M p T) is here);
-      policy = c.restore_flocks.ensures.policy ∙ c.restore_locks.ensures.policy ∙ c.loop-i.invariant.policy;
       swept = λ swept. c.restore_flocks.ensures.swept (c.restore_locks.ensures.swept (c.loop-i.invariant.swept swept));
     }
 

@@ -19,7 +19,6 @@ loop-i-preserved c =
     record {
       joins = joins_next (table_state c.args.table.now) files c.loop-i.i part M T within c.loop-i.invariant.joins
           (subst (λ (p : FilePart). JoinsEach M p.number p.waits.items T) is here);
-      policy = c.restore_waits.ensures.policy ∙ c.loop-i.invariant.policy;
       swept = λ swept. c.restore_waits.ensures.swept (c.loop-i.invariant.swept swept);
     }
 

@@ -1,11 +1,10 @@
-use Rattle.std.proofs.Common.{◌≡◌, take}
+use Rattle.std.proofs.Common.{take}
 use Rattle.lock_server.specs.Importing.{JoinsAll}
-use Rattle.lock_server.specs.TableView.{AreSwept, table_policy, table_state}
+use Rattle.lock_server.specs.TableView.{AreSwept, table_state}
 use Rattle.lock_server.proofs.import.parts.Parts.put_waits.Given as goal
 
 abbrev pub invariant-loop-i : goal.invariant-loop-i
 invariant-loop-i l = record {
   joins : JoinsAll (table_state l.initial.table) (take l.i l.self.files.items) (table_state l.table);
-  policy : table_policy l.table ≡ table_policy l.initial.table;
   swept : AreSwept l.initial.table → AreSwept l.table;
 }

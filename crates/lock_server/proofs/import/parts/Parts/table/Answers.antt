@@ -1,10 +1,9 @@
-use Rattle.std.proofs.Common.{ℕ, ◌≡◌, ◌∙◌, List, sym, subst}
+use Rattle.std.proofs.Common.{ℕ, ◌∙◌, List, sym, subst}
 use Rattle.std.specs.Prelude.{IsTrue}
-use Rattle.wait_core.specs.declared.Policy.{Policy}
 use Rattle.lock_server.specs.Deadlock.{IsFreeOfCycles}
-use Rattle.lock_server.specs.Restoring.{AreSettled, CrossesEach}
+use Rattle.lock_server.specs.Restoring.{CrossesEach}
 use Rattle.lock_server.specs.States.{State}
-use Rattle.lock_server.specs.TableView.{table_policy, table_state}
+use Rattle.lock_server.specs.TableView.{table_state}
 use Rattle.lock_server.proofs.ImportLemmas.{safe_built}
 use Rattle.lock_server.proofs.JustLemmas.{All-from}
 use Rattle.lock_server.proofs.ReaderLemmas.{fails}
@@ -17,10 +16,9 @@ use Rattle.lock_server.proofs.import.parts.Parts.table.Goals as goal
 pub returns-clause-safe : goal.returns-clause-safe
 returns-clause-safe c =
     let table = c.restore_crossed.new.self in
-    let settled = subst (λ (p : Policy). AreSettled p (table_state c.put_grants.new.table)) (sym c.restore_crossed.ensures.policy) c.in_ok-check_waits.ensures.settled in
-    ∣ safe_built (table_policy table) (table_state c.new-table.result) (table_state c.put_locks.new.table) (table_state c.put_waits.new.table)
+    ∣ safe_built c.args.self.now.rules.policy (table_state c.new-table.result) (table_state c.put_locks.new.table) (table_state c.put_waits.new.table)
     (table_state c.put_grants.new.table) _ _ _ table c.new-table.ensures.opening c.in_ok-put_locks.ensures.sets c.in_ok-put_waits.ensures.joins
-    c.in_ok-put_grants.ensures.queues settled c.restore_crossed.ensures.crosses c.in_ok-check_cycles.ensures.free ∣₁
+    c.in_ok-put_grants.ensures.queues c.in_ok-check_waits.ensures.settled c.restore_crossed.ensures.crosses c.in_ok-check_cycles.ensures.free ∣₁
 
 pub returns-clause-swept : goal.returns-clause-swept
 returns-clause-swept c =
@@ -40,10 +38,6 @@ returns-clause-again c = λ S of.
     let same = restored S parts of start locked joined queued c.new-table.ensures.opening c.in_ok-put_locks.ensures.sets c.in_ok-put_waits.ensures.joins
     c.in_ok-put_grants.ensures.queues T crosses in
     same
-
-pub returns-clause-policy : goal.returns-clause-policy
-returns-clause-policy c =
-    c.restore_crossed.ensures.policy ∙ c.put_grants.ensures.policy ∙ c.put_waits.ensures.policy ∙ c.put_locks.ensures.policy ∙ c.new-table.ensures.policy
 
 pub returns-in_err-put_locks-clause-again : goal.returns-in_err-put_locks-clause-again
 returns-in_err-put_locks-clause-again c = λ S of. fails _ c.from_residual.result _ _ c.from_residual.ensures.1
@@ -74,11 +68,9 @@ returns-in_err-check_waits-clause-again c = λ S of.
     let locked = table_state c.put_locks.new.table in
     let joined = table_state c.put_waits.new.table in
     let queued = table_state c.put_grants.new.table in
-    let policy : table_policy c.put_grants.new.table ≡ parts.rules.policy =
-    c.put_grants.ensures.policy ∙ c.put_waits.ensures.policy ∙ c.put_locks.ensures.policy ∙ c.new-table.ensures.policy in
     let settled = settled_restored S parts of start locked joined queued c.new-table.ensures.opening c.in_ok-put_locks.ensures.sets
     c.in_ok-put_waits.ensures.joins c.in_ok-put_grants.ensures.queues in
-    fails _ c.from_residual-in_err-check_waits.result _ _ c.from_residual-in_err-check_waits.ensures.1 (c.in_err-check_waits.ensures.again (subst (λ (p : Policy). AreSettled p queued) (sym policy) settled))
+    fails _ c.from_residual-in_err-check_waits.result _ _ c.from_residual-in_err-check_waits.ensures.1 (c.in_err-check_waits.ensures.again settled)
 
 pub returns-in_err-check_cycles-clause-again : goal.returns-in_err-check_cycles-clause-again
 returns-in_err-check_cycles-clause-again c = λ S of.
@@ -91,10 +83,8 @@ returns-in_err-check_cycles-clause-again c = λ S of.
     let crosses = subst (λ (l : List ℕ). CrossesEach queued l T) c.deref.ensures.value c.restore_crossed.ensures.crosses in
     let same = restored S parts of start locked joined queued c.new-table.ensures.opening c.in_ok-put_locks.ensures.sets c.in_ok-put_waits.ensures.joins
     c.in_ok-put_grants.ensures.queues T crosses in
-    let policy : table_policy c.restore_crossed.new.self ≡ parts.rules.policy =
-    c.restore_crossed.ensures.policy ∙ c.put_grants.ensures.policy ∙ c.put_waits.ensures.policy ∙ c.put_locks.ensures.policy ∙ c.new-table.ensures.policy in
-    fails _ c.from_residual-in_err-check_cycles.result _ _ c.from_residual-in_err-check_cycles.ensures.1 (c.in_err-check_cycles.ensures.again (subst (λ (p : Policy). IsFreeOfCycles p T) (sym policy)
-    (subst (λ (U : State). IsFreeOfCycles parts.rules.policy U) (sym (state_from_same S T same)) of.safe.free_of_cycles)))
+    fails _ c.from_residual-in_err-check_cycles.result _ _ c.from_residual-in_err-check_cycles.ensures.1 (c.in_err-check_cycles.ensures.again
+    (subst (λ (U : State). IsFreeOfCycles parts.rules.policy U) (sym (state_from_same S T same)) of.safe.free_of_cycles))
 
 pub returns-in_err-check_crossed-clause-again : goal.returns-in_err-check_crossed-clause-again
 returns-in_err-check_crossed-clause-again c = λ S of.

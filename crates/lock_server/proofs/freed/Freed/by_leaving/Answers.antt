@@ -2,14 +2,11 @@ use Rattle.std.proofs.Common.{sym, subst}
 use Rattle.wait_core.specs.declared.Policy.{Policy}
 use Rattle.lock_server.specs.declared.freed.Freed.TheVariants.{Nobody}
 use Rattle.lock_server.specs.Freed.{LeavingFrees}
-use Rattle.lock_server.specs.TableView.{table_policy}
 use Rattle.lock_server.proofs.FreedLemmas.{leaving_frees_nobody, leaving_frees_there}
-use Rattle.lock_server.proofs.table.Table.freed_by_leaving.Goals as goal
+use Rattle.lock_server.proofs.freed.Freed.by_leaving.Goals as goal
 
 pub returns-in-Held : goal.returns-in-Held
-unfolding table_policy
 returns-in-Held c = subst (λ (policy : Policy). LeavingFrees policy c.args.wait.now Nobody) (sym c.in-Held.is) (leaving_frees_nobody c.args.wait.now)
 
 pub returns-in-Queue : goal.returns-in-Queue
-unfolding table_policy
-returns-in-Queue c = rw c.of.ensures (leaving_frees_there c.args.self.now.policy c.args.wait.now)
+returns-in-Queue c = rw c.of.ensures (leaving_frees_there c.args.policy c.args.wait.now)
