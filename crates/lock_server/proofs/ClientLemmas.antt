@@ -2,20 +2,20 @@
 -- `Table::forget_owners` and `Table::forget_file`.
 use Rattle.std.proofs.Common.{rules, ℕ, zero, suc, ◌≡◌, ◌≢◌, ◌+◌, ◌-◌, ◌<◌, ◌≤◌, ◌∙◌, add-one, add-zero, add-suc, inl, inr, sym, ap, refl, subst, arith, cond, true, false, not, Bool, Option, Some, None, List, [], ◌∷◌, All, Any, append-nil}
 use Rattle.std.specs.Prelude.{if◌then◌else◌, IsTrue, filter}
-use Rattle.std.specs.BTreeMap.{BTreeMap, get}
-use Rattle.std.specs.Ordering.{nat_cmp}
 use Rattle.std.proofs.lemmas.Bool.{cases_eq, cases_lt}
 use Rattle.std.proofs.lemmas.List.Elements.{All-head}
 use Rattle.range_core.specs.declared.Mode.{Mode}
 use Rattle.wait_core.specs.declared.Policy.{Policy}
 use Rattle.lock_server.specs.declared.Pending.{Pending}
 use Rattle.lock_server.specs.declared.file.LockFile.{LockFile}
+use Rattle.lock_server.specs.declared.files.Files.{Files}
 use Rattle.lock_server.specs.declared.leaving.Leaving.TheVariants.{All as all_leave}
 use Rattle.lock_server.specs.declared.tickets.Tickets.{Tickets}
 use Rattle.lock_server.specs.declared.waiters.Waiters.{Waiters}
 use Rattle.lock_server.specs.Clients.{ForgetsFile, SettlesAll, SettlesBelow, Strips, StripsFile, StripsLocks, StripsOn}
 use Rattle.lock_server.specs.Files.{FileState, SameFile, untouched}
 use Rattle.lock_server.specs.FileView.{file_state, state_at}
+use Rattle.lock_server.specs.FilesView.{PutsEntry, entry_in}
 use Rattle.lock_server.specs.Index.{IsIndexed}
 use Rattle.lock_server.specs.Leaving.{is_leaving, is_staying}
 use Rattle.lock_server.specs.Settling.{IsSettled, Settles}
@@ -24,7 +24,6 @@ use Rattle.lock_server.specs.TableView.{AllLeave, StripsLocksOn}
 use Rattle.lock_server.proofs.CrossLemmas.{CrossesBy-same}
 use Rattle.lock_server.proofs.EntryMoves.{SameWaiters-itself, kept_indexed}
 use Rattle.lock_server.proofs.ForgetLemmas.{IsDismissing, filter_all}
-use Rattle.lock_server.proofs.IndexLemmas.{PutsEntry}
 use Rattle.lock_server.proofs.ListLemmas.{Any-cons, Any-here, Any-nil, Any-there}
 use Rattle.lock_server.proofs.SettleLemmas.{crosses_then}
 use Rattle.lock_server.proofs.StateLemmas.{SameFile-itself, SameFile-then, file_from_same, state_from_same}
@@ -38,15 +37,15 @@ none_stays false = refl
 untouched_stripped : (gone : ℕ → Bool) → StripsLocks untouched gone untouched
 untouched_stripped gone = record { bytes = λ other byte. none_stays (gone other); flocks = λ other. none_stays (gone other) }
 
-module _ (old new : BTreeMap ℕ LockFile) (tickets : Tickets) (was : Waiters) (file : ℕ) (known : IsIndexed old tickets was) where
-  stays : ((other : ℕ) → other ≢ file → get nat_cmp new other ≡ get nat_cmp old other) → IsIndexed new tickets was
+module _ (old new : Files) (tickets : Tickets) (was : Waiters) (file : ℕ) (known : IsIndexed old tickets was) where
+  stays : ((other : ℕ) → other ≢ file → entry_in new other ≡ entry_in old other) → IsIndexed new tickets was
       → ChangesFile (state_by old tickets was) file [] (state_by new tickets was)
   stays others indexed =
       changes_by old new tickets tickets was was file [] others refl (waiters_known new tickets was indexed)
       (CrossesBy-same (waits_in old) was (waiters_known old tickets was known) was (SameWaiters-itself was))
 
   -- owners lose their locks
-  pub strips_by : (before after : LockFile) → get nat_cmp old file ≡ Some before → PutsEntry old new file (Some after)
+  pub strips_by : (before after : LockFile) → entry_in old file ≡ Some before → PutsEntry old new file (Some after)
       → (file_state after).waits ≡ (file_state before).waits → (gone : ℕ → Bool) → StripsLocks (file_state before) gone (file_state after)
       → StripsLocksOn (state_by old tickets was) file gone (state_by new tickets was)
   strips_by before after is puts waits gone strips = record {
@@ -55,8 +54,8 @@ module _ (old new : BTreeMap ℕ LockFile) (tickets : Tickets) (was : Waiters) (
     changes = stays puts.others (kept_indexed old new tickets was file before after is puts known waits);
   }
 
-pub strips_nothing : (files : BTreeMap ℕ LockFile) (tickets : Tickets) (waiters : Waiters) (file : ℕ) (gone : ℕ → Bool)
-    → IsIndexed files tickets waiters → get nat_cmp files file ≡ None
+pub strips_nothing : (files : Files) (tickets : Tickets) (waiters : Waiters) (file : ℕ) (gone : ℕ → Bool)
+    → IsIndexed files tickets waiters → entry_in files file ≡ None
     → StripsLocksOn (state_by files tickets waiters) file gone (state_by files tickets waiters)
 strips_nothing files tickets waiters file gone known none = record {
   strips = subst (λ (F : FileState). StripsLocks F gone F) (sym (ap state_at none)) (untouched_stripped gone);
@@ -245,7 +244,7 @@ pub all_waits_gone : (waits : List Pending) → All (λ wait. IsTrue (is_staying
 all_waits_gone [] all = refl
 all_waits_gone (wait ∷ waits) all = absurd (let h : false ≡ true = All-head (λ w. IsTrue (is_staying all_leave w)) wait waits all in cc)
 
-pub forgets_by : (old new : BTreeMap ℕ LockFile) (tickets : Tickets) (was : Waiters) (file : ℕ) → IsIndexed old tickets was → PutsEntry old new file None
+pub forgets_by : (old new : Files) (tickets : Tickets) (was : Waiters) (file : ℕ) → IsIndexed old tickets was → PutsEntry old new file None
     → IsIndexed new tickets was → ForgetsFile (state_by old tickets was) file (state_by new tickets was)
 forgets_by old new tickets was file known puts indexed = record {
   nothing = subst (λ (F : FileState). SameFile untouched F) (sym (ap state_at puts.here)) (SameFile-itself untouched);

@@ -2,11 +2,8 @@
 use Rattle.std.proofs.Common.{arith, ℕ, ◌≡◌, ◌≢◌, ◌∙◌, sym, ap, subst, refl, inl, inr, true, false, Bool, Option, Some, None, Result, Ok, Err, List, [], ◌∷◌, ◌++◌, All, Any}
 use Rattle.std.proofs.lemmas.Grind.{common_steps}
 use Rattle.std.specs.Prelude.{is_some, IsTrue, IsSome, IfNone, OnOk, OnErr}
-use Rattle.std.specs.BTreeMap.{BTreeMap, UpdatesBy, get, is_at}
 use Rattle.std.specs.Borrow.{MutBor}
-use Rattle.std.specs.Map.{lookup}
 use Rattle.std.specs.Option.{option_copied_mut}
-use Rattle.std.specs.Ordering.{nat_cmp}
 use Rattle.std.proofs.lemmas.Bool.{cases_Bool, cases_eq}
 use Rattle.range_core.specs.declared.Mode.{Mode}
 use Rattle.range_core.specs.declared.Span.{Span}
@@ -14,6 +11,7 @@ use Rattle.wait_core.specs.declared.Family.{Family}
 use Rattle.wait_core.specs.declared.Family.TheVariants.{Bytes, Whole}
 use Rattle.lock_server.specs.declared.Pending.{Pending}
 use Rattle.lock_server.specs.declared.file.LockFile.{LockFile}
+use Rattle.lock_server.specs.declared.files.Files.{Files}
 use Rattle.lock_server.specs.declared.table.Table.{Table}
 use Rattle.lock_server.specs.declared.tickets.Place.{Place}
 use Rattle.lock_server.specs.declared.tickets.Place.TheVariants.{Reserved, Waits}
@@ -21,6 +19,7 @@ use Rattle.lock_server.specs.declared.tickets.Tickets.{Tickets}
 use Rattle.lock_server.specs.declared.waiters.Waiters.{Waiters}
 use Rattle.lock_server.specs.Files.{FileState, SetsBytes, SetsLock, Unlocks, Joins, Leaves, untouched}
 use Rattle.lock_server.specs.FileView.{file_state, keeps_place, state_at}
+use Rattle.lock_server.specs.FilesView.{PutsEntry, entry_in}
 use Rattle.lock_server.specs.Waiting.{IsReserved, IsReservedIn, KeepsFlockRoom}
 use Rattle.lock_server.specs.TableRoom.{KeepsRoomOn}
 use Rattle.lock_server.specs.TableView.{entry_of, table_state}
@@ -29,7 +28,7 @@ use Rattle.lock_server.specs.TicketsView.{place_at, grants_of, SetsPlace, SameTi
 use Rattle.lock_server.specs.WaitersView.{SameWaiters, BeginsIf, CrossesIf, EndsIf, HasRoomIf}
 use Rattle.lock_server.specs.States.{ChangesFile, IsPending}
 use Rattle.lock_server.specs.Calls.{ReleasesOn, SetsOn, given_by}
-use Rattle.lock_server.proofs.IndexLemmas.{PutsEntry, PutsEntry-updates, IsIndexed-same, waits_kept}
+use Rattle.lock_server.proofs.IndexLemmas.{IsIndexed-same, waits_kept}
 use Rattle.lock_server.proofs.ListLemmas.{Any-nil}
 use Rattle.lock_server.proofs.TicketMoves.{PutsWaits, IsIdle, has_key, itself, ticket_of, tickets_joined, tickets_left, tickets_noted}
 use Rattle.lock_server.proofs.WaiterMoves.{WaitersKnown}
@@ -44,8 +43,8 @@ SameWaiters-itself waiters = record { files = λ owner. refl; crossed = λ owner
 pub untouched_unlocked : (family : Family) (owner : ℕ) → Unlocks family untouched owner untouched
 untouched_unlocked family owner = grind (arith, common_steps, cases_Bool)
 
-pub releases_nothing : (files : BTreeMap ℕ LockFile) (tickets : Tickets) (waiters : Waiters) (file : ℕ) (family : Family) (owner : ℕ)
-    → IsIndexed files tickets waiters → get nat_cmp files file ≡ None
+pub releases_nothing : (files : Files) (tickets : Tickets) (waiters : Waiters) (file : ℕ) (family : Family) (owner : ℕ)
+    → IsIndexed files tickets waiters → entry_in files file ≡ None
     → ReleasesOn (state_by files tickets waiters) file family owner (state_by files tickets waiters)
 releases_nothing files tickets waiters file family owner known none = record {
   unlocks = subst (λ (F : FileState). Unlocks family F owner F) (sym (ap state_at none)) (untouched_unlocked family owner);
@@ -57,8 +56,8 @@ releases_nothing files tickets waiters file family owner known none = record {
 untouched_unset : (owner : ℕ) (span : Span) → SetsBytes untouched owner span None untouched
 untouched_unset owner span = grind (arith, common_steps, cases_Bool)
 
-pub unlocks_nothing : (files : BTreeMap ℕ LockFile) (tickets : Tickets) (waiters : Waiters) (file owner : ℕ) (span : Span)
-    → IsIndexed files tickets waiters → get nat_cmp files file ≡ None
+pub unlocks_nothing : (files : Files) (tickets : Tickets) (waiters : Waiters) (file owner : ℕ) (span : Span)
+    → IsIndexed files tickets waiters → entry_in files file ≡ None
     → SetsOn (state_by files tickets waiters) file Bytes owner span None (state_by files tickets waiters)
 unlocks_nothing files tickets waiters file owner span known none = record {
   sets = subst (λ (F : FileState). SetsBytes F owner span None F) (sym (ap state_at none)) (untouched_unset owner span);
@@ -66,8 +65,8 @@ unlocks_nothing files tickets waiters file owner span known none = record {
   changes = (releases_nothing files tickets waiters file Bytes owner known none).changes;
 }
 
-module _ (old new : BTreeMap ℕ LockFile) (tickets : Tickets) (was : Waiters) (file : ℕ) (before after : LockFile)
-    (is : get nat_cmp old file ≡ Some before) (puts : PutsEntry old new file (Some after)) (known : IsIndexed old tickets was) where
+module _ (old new : Files) (tickets : Tickets) (was : Waiters) (file : ℕ) (before after : LockFile)
+    (is : entry_in old file ≡ Some before) (puts : PutsEntry old new file (Some after)) (known : IsIndexed old tickets was) where
   module _ (waits : (file_state after).waits ≡ (file_state before).waits) where
     -- where the waits are kept all is known as before
     pub kept_indexed : IsIndexed new tickets was
@@ -144,7 +143,7 @@ module _ (old new : BTreeMap ℕ LockFile) (tickets : Tickets) (was : Waiters) (
           (CrossesBy-begun (waits_in old) was (waiters_known old tickets was known) now wait.owner file wait.detect begins)
 
 -- the entry of one file is put, or goes, and its waits stay
-pub put_indexed : (old new : BTreeMap ℕ LockFile) (tickets : Tickets) (waiters : Waiters) (file : ℕ) (entry : Option LockFile)
+pub put_indexed : (old new : Files) (tickets : Tickets) (waiters : Waiters) (file : ℕ) (entry : Option LockFile)
     → PutsEntry old new file entry → (state_at entry).waits ≡ (state_in old file).waits
     → IsIndexed old tickets waiters → IsIndexed new tickets waiters
 put_indexed old new tickets waiters file entry puts same known =
@@ -157,17 +156,19 @@ put_indexed old new tickets waiters file entry puts same known =
     ]) known
 
 -- an entry is made, or refused, where there was none
-pub opened_indexed : {E : Type 0} (r : Result (Option LockFile) E) (old new : BTreeMap ℕ LockFile) (tickets : Tickets) (waiters : Waiters) (file : ℕ)
-    (entry : LockFile) → get nat_cmp old file ≡ None → (file_state entry).waits ≡ []
-    → OnOk r (UpdatesBy nat_cmp (nat_cmp file) old new (Some entry)) → OnErr r (new.entries ≡ old.entries) → IsIndexed old tickets waiters
+pub opened_indexed : {X E : Type 0} (r : Result X E) (old new : Files) (tickets : Tickets) (waiters : Waiters) (file : ℕ)
+    (entry : LockFile) → entry_in old file ≡ None → (file_state entry).waits ≡ []
+    → OnOk r (PutsEntry old new file (Some entry)) → OnErr r ((other : ℕ) → entry_in new other ≡ entry_in old other) → IsIndexed old tickets waiters
     → IsIndexed new tickets waiters
 opened_indexed (Ok x) old new tickets waiters file entry none empty ok err known =
-    put_indexed old new tickets waiters file (Some entry) (PutsEntry-updates old new file (Some entry) ok) (empty ∙ sym (ap (λ (e : Option LockFile). (state_at e).waits) none)) known
+    put_indexed old new tickets waiters file (Some entry) ok (empty ∙ sym (ap (λ (e : Option LockFile). (state_at e).waits) none)) known
 opened_indexed (Err e) old new tickets waiters file entry none empty ok err known =
-    IsIndexed-same old new tickets waiters (λ other. ap (λ (found : Option LockFile). (state_at found).waits) (get_same other)) known
-  where
-    get_same : (other : ℕ) → get nat_cmp new other ≡ get nat_cmp old other
-    get_same other = ap (λ (entries : List (ℕ × LockFile)). lookup (is_at (nat_cmp other)) entries) err
+    IsIndexed-same old new tickets waiters (λ other. ap (λ (found : Option LockFile). (state_at found).waits) (err other)) known
+
+-- what holds holds on an error
+pub on_err : {X E : Type 0} (told : Result X E) (P : Type 0) → P → OnErr told P
+on_err (Ok done) P holds = tt
+on_err (Err memory) P holds = holds
 
 pub none_from_test : {X : Type 0} (found : Option X) → is_some found ≡ false → found ≡ None
 none_from_test None test = refl
@@ -183,17 +184,17 @@ entry_with None ticket any = absurd (Any-nil (λ wait. wait.ticket ≡ ticket) a
 entry_with (Some entry) ticket any = (entry, refl)
 
 module _ (table : Table) (ticket file : ℕ) (waits : place_at table.tickets ticket ≡ Some (Waits file)) where
-  pub entry_of_wait : (entry : LockFile) × (get nat_cmp table.files file ≡ Some entry)
+  pub entry_of_wait : (entry : LockFile) × (entry_in table.files file ≡ Some entry)
   unfolding table_state entry_of
-  entry_of_wait = entry_with (get nat_cmp table.files file) ticket (waits_place table ticket file waits)
+  entry_of_wait = entry_with (entry_in table.files file) ticket (waits_place table ticket file waits)
 
   -- so a map lends it
-  pub lent_of_wait : (lent : Option (MutBor LockFile)) → option_copied_mut lent ≡ get nat_cmp table.files file → IsSome lent
+  pub lent_of_wait : (lent : Option (MutBor LockFile)) → option_copied_mut lent ≡ entry_in table.files file → IsSome lent
   lent_of_wait None value = absurd (let there : None ≡ Some entry_of_wait.0 = value ∙ entry_of_wait.1 in cc)
   lent_of_wait (Some locks) value = refl
 
   -- and it has the wait
-  pub wait_of_ticket : (before : LockFile) → get nat_cmp table.files file ≡ Some before → Any (λ wait. wait.ticket ≡ ticket) (file_state before).waits
+  pub wait_of_ticket : (before : LockFile) → entry_in table.files file ≡ Some before → Any (λ wait. wait.ticket ≡ ticket) (file_state before).waits
   unfolding table_state entry_of
   wait_of_ticket before is = subst (λ (found : Option LockFile). Any (λ wait. wait.ticket ≡ ticket) (state_at found).waits) is (waits_place table ticket file waits)
 
@@ -206,13 +207,13 @@ pub not_pending : (table : Table) (ticket : ℕ) → ((file : ℕ) → place_at 
 not_pending table ticket none pending = none pending.file (place_waits table ticket pending.file pending.waits)
 
 -- waiters that stand for the same are known as well
-pub same_indexed : (files : BTreeMap ℕ LockFile) (tickets : Tickets) (was now : Waiters) → SameWaiters was now → IsIndexed files tickets was
+pub same_indexed : (files : Files) (tickets : Tickets) (was now : Waiters) → SameWaiters was now → IsIndexed files tickets was
     → IsIndexed files tickets now
 same_indexed files tickets was now same known =
     indexed files tickets now (tickets_known files tickets was known) (WaitersKnown-same (waits_in files) was now same (waiters_known files tickets was known))
 
 -- a request is noted, or refused
-pub noted_indexed : {X E : Type 0} (r : Result X E) (files : BTreeMap ℕ LockFile) (tickets after : Tickets) (waiters : Waiters) (ticket : ℕ)
+pub noted_indexed : {X E : Type 0} (r : Result X E) (files : Files) (tickets after : Tickets) (waiters : Waiters) (ticket : ℕ)
     → IsIndexed files tickets waiters → IsIdle (place_at tickets ticket)
     → OnOk r (SetsPlace tickets after ticket (Some Reserved)) → grants_of after ≡ grants_of tickets → OnErr r (SameTickets tickets after)
     → IsIndexed files after waiters

@@ -4,9 +4,11 @@ use Rattle.std.proofs.lemmas.Grind.{common_steps, flat_map-append}
 use Rattle.std.specs.Prelude.{◌⊎◌, AllPairs, Any, Contains, IsTrue, is_some}
 use Rattle.std.specs.BTreeMap.{BTreeMap, IsOrdered, get, is_at}
 use Rattle.std.specs.Borrow.{Bor}
+use Rattle.std.specs.Global.{Box}
 use Rattle.std.specs.List.{flat_map}
 use Rattle.std.specs.Map.{keys_of, lookup}
 use Rattle.std.specs.Map.Iter.{deref_pair}
+use Rattle.std.specs.Option.{option_map}
 use Rattle.std.specs.Ordering.{nat_cmp}
 use Rattle.std.specs.declared.cmp.Ordering.{Ordering}
 use Rattle.std.specs.declared.cmp.Ordering.TheVariants.{Less}
@@ -34,6 +36,7 @@ use Rattle.lock_server.specs.declared.Lock.{Lock}
 use Rattle.lock_server.specs.declared.Pending.{Pending}
 use Rattle.lock_server.specs.declared.Rules.{Rules}
 use Rattle.lock_server.specs.declared.file.LockFile.{LockFile}
+use Rattle.lock_server.specs.declared.files.Files.{Files}
 use Rattle.lock_server.specs.declared.openings.Openings.{Openings}
 use Rattle.lock_server.specs.declared.openings.Seen.{Seen}
 use Rattle.lock_server.specs.declared.table.Table.{Table}
@@ -41,6 +44,7 @@ use Rattle.lock_server.specs.declared.waiters.Waiter.{Waiter}
 use Rattle.lock_server.specs.declared.waiters.Waiters.{Waiters}
 use Rattle.lock_server.specs.Bytes.{IsExport, export_words, family_word, file_words, flag_word, flock_words, listed, lock_words, mode_word, note_words, number_words, rules_words, version, wait_words}
 use Rattle.lock_server.specs.FileView.{file_state, state_at}
+use Rattle.lock_server.specs.FilesView.{entry_in}
 use Rattle.lock_server.specs.Files.{FileState, SameFile, untouched}
 use Rattle.lock_server.specs.Inventory.{AreAllOf, AreByteLocks, AreFiles, AreJust, AreLocksOf, FileEntry, IsEntryOf, IsFileEntry, IsInventory, Inventory, Note, SaysFile, entry_place, note_place}
 use Rattle.lock_server.specs.Listing.{EndsBefore, IsByteLock, IsEarlier, IsFirstFrom, IsFlockLock, IsNextFrom, flock_place, lock_place}
@@ -411,7 +415,24 @@ pub record IsFilePiece (S : State) (piece : ℕ × List FileEntry) : Type 0 wher
   pub number : entry.number ≡ piece.0
   pub is : IsFileEntry S entry
 
-pub file_piece : (table : Table) (number : ℕ) (file : LockFile) (entry : FileEntry) → AreSwept table → get nat_cmp table.files number ≡ Some file
+-- a box that the map has is the entry of its file
+pub entry_held : (files : Files) (number : ℕ) (held : Box LockFile) → get nat_cmp files.by_number number ≡ Some held
+    → entry_in files number ≡ Some held.value
+unfolding entry_in
+entry_held files number held there = ap (λ (found : Option (Box LockFile)). option_map (λ box. box.value) found) there
+
+held_in : (found : Option (Box LockFile)) (file : LockFile) → option_map (λ held. held.value) found ≡ Some file
+    → (held : Box LockFile) × (found ≡ Some held)
+held_in None file is = absurd (let none : None ≡ Some file = is in cc)
+held_in (Some held) file is = (held, refl)
+
+-- and each entry is in one
+held_there : (files : Files) (number : ℕ) (file : LockFile) → entry_in files number ≡ Some file
+    → (held : Box LockFile) × (get nat_cmp files.by_number number ≡ Some held)
+unfolding entry_in
+held_there files number file there = held_in (get nat_cmp files.by_number number) file there
+
+pub file_piece : (table : Table) (number : ℕ) (file : LockFile) (entry : FileEntry) → AreSwept table → entry_in table.files number ≡ Some file
     → IsEntryOf number (file_state file) entry → IsFilePiece (table_state table) (number, entry ∷ [])
 unfolding table_state entry_of
 file_piece table number file entry swept there says = record {
@@ -419,9 +440,9 @@ file_piece table number file entry swept there says = record {
   alone = refl;
   number = says.number_is;
   is = record {
-    used = λ idle. swept entry.number idle (record { entry = file; is = ap (λ (n : ℕ). get nat_cmp table.files n) says.number_is ∙ there });
+    used = λ idle. swept entry.number idle (record { entry = file; is = ap (λ (n : ℕ). entry_in table.files n) says.number_is ∙ there });
     says = subst (λ (F : FileState). SaysFile F entry)
-        (sym (ap (λ (found : Option LockFile). state_at found) (ap (λ (n : ℕ). get nat_cmp table.files n) says.number_is ∙ there))) says.says;
+        (sym (ap (λ (found : Option LockFile). state_at found) (ap (λ (n : ℕ). entry_in table.files n) says.number_is ∙ there))) says.says;
   };
 }
 
@@ -459,35 +480,44 @@ entry_or_idle : (found : Option LockFile) → ((file : LockFile) × (found ≡ S
 entry_or_idle None = inr (SameFile-itself untouched)
 entry_or_idle (Some file) = inl (file, refl)
 
-used_there : (table : Table) (entry : FileEntry) → IsFileEntry (table_state table) entry → (file : LockFile) × (get nat_cmp table.files entry.number ≡ Some file)
+used_there : (table : Table) (entry : FileEntry) → IsFileEntry (table_state table) entry → (file : LockFile) × (entry_in table.files entry.number ≡ Some file)
 unfolding table_state entry_of
-used_there table entry is = elim (entry_or_idle (get nat_cmp table.files entry.number)) [
+used_there table entry is = elim (entry_or_idle (entry_in table.files entry.number)) [
   | inl found ↦ found
   | inr idle ↦ absurd (is.used idle)
 ]
 
+-- so there is a box with it, and its number is among the keys
+box_used : (table : Table) (entry : FileEntry) → IsFileEntry (table_state table) entry
+    → (held : Box LockFile) × (get nat_cmp table.files.by_number entry.number ≡ Some held)
+box_used table entry is = let there = used_there table entry is in held_there table.files entry.number there.0 there.1
+
+box_key : (files : Files) (number : ℕ) (file : LockFile) → entry_in files number ≡ Some file → Contains (keys_of files.by_number.entries) number
+box_key files number file there = let held = held_there files number file there in key_there files.by_number number held.0 held.1
+
 -- a loop over the files, behind their number
-pub all_files : (table : Table) (entries : List (Bor ℕ × Bor LockFile)) (count : ℕ) (old mid new : List ℕ) (at then next : ℕ)
-    → count ≡ length table.files.entries → IsOrdered nat_cmp table.files → map deref_pair entries ≡ table.files.entries
+pub all_files : (table : Table) (entries : List (Bor ℕ × Bor (Box LockFile))) (count : ℕ) (old mid new : List ℕ) (at then next : ℕ)
+    → count ≡ length table.files.by_number.entries → IsOrdered nat_cmp table.files.by_number → map deref_pair entries ≡ table.files.by_number.entries
     → Puts (count ∷ []) old at mid then → Walked (IsFilePiece (table_state table)) file_words entries mid then new next
     → PutsSome (AreFiles (table_state table)) (listed file_words) old at new next
 unfolding table_state entry_of
 all_files table entries count old mid new at then next counts ordered whole number walked =
     let S : State = table_state table in
-    let of_keys = walked_keys (IsFilePiece S) file_words table.files.entries entries mid new then next walked whole in
-    let just = walked_just table.files (λ (entry : FileEntry). entry.number) entry_place (IsFileEntry S) (IsFilePiece S) file_words entries mid new then next
-    (λ x y first second less. inl less) (file_alone S) (used_there table) ordered whole walked in
+    let boxes = table.files.by_number in
+    let of_keys = walked_keys (IsFilePiece S) file_words boxes.entries entries mid new then next walked whole in
+    let just = walked_just boxes (λ (entry : FileEntry). entry.number) entry_place (IsFileEntry S) (IsFilePiece S) file_words entries mid new then next
+    (λ x y first second less. inl less) (file_alone S) (box_used table) ordered whole walked in
     let files : List FileEntry = flat_map (λ (p : ℕ × List FileEntry). p.1) walked.pieces in
     let right : count ≡ length files =
-    counts ∙ sym (length-map table.files.entries (λ e. e.0)) ∙ ap (λ (l : List ℕ). length l) (sym of_keys)
+    counts ∙ sym (length-map boxes.entries (λ e. e.0)) ∙ ap (λ (l : List ℕ). length l) (sym of_keys)
     ∙ length-map walked.pieces (λ p. p.0) ∙ sym (one_each S walked.pieces walked.each) in
     record {
       what = files;
       is = record {
         just = just;
-        others = λ file none. elim (entry_or_idle (get nat_cmp table.files file)) [
+        others = λ file none. elim (entry_or_idle (entry_in table.files file)) [
           | inl found ↦ absurd (none (file_joined S file walked.pieces walked.each
-              (subst (λ (ks : List ℕ). Contains ks file) (sym of_keys) (key_there table.files file found.0 found.1))))
+              (subst (λ (ks : List ℕ). Contains ks file) (sym of_keys) (box_key table.files file found.0 found.1))))
           | inr idle ↦ idle
         ];
       };

@@ -3,13 +3,12 @@ use Rattle.std.proofs.Common.{arith, ℕ, ◌≡◌, ◌∙◌, sym, ap, refl, i
 use Rattle.std.proofs.lemmas.Grind.{common_steps}
 use Rattle.std.specs.Prelude.{IsSome}
 use Rattle.std.specs.Borrow.{MutBor}
-use Rattle.std.specs.BTreeMap.{BTreeMap, get}
 use Rattle.std.specs.Option.{option_copied_mut}
-use Rattle.std.specs.Ordering.{nat_cmp}
 use Rattle.std.proofs.lemmas.Bool.{cases_eq}
 use Rattle.wait_core.specs.declared.Policy.{Policy}
 use Rattle.lock_server.specs.declared.Pending.{Pending}
 use Rattle.lock_server.specs.declared.file.LockFile.{LockFile}
+use Rattle.lock_server.specs.declared.files.Files.{Files}
 use Rattle.lock_server.specs.declared.table.Table.{Table}
 use Rattle.lock_server.specs.TableRoom.{KeepsRoomOn}
 use Rattle.lock_server.specs.TableView.{entry_of, table_state}
@@ -18,6 +17,7 @@ use Rattle.lock_server.specs.declared.tickets.Tickets.{Tickets}
 use Rattle.lock_server.specs.declared.waiters.Waiters.{Waiters}
 use Rattle.lock_server.specs.Files.{FileState}
 use Rattle.lock_server.specs.FileView.{file_state, state_at}
+use Rattle.lock_server.specs.FilesView.{PutsEntry, entry_in}
 use Rattle.lock_server.specs.Index.{IsIndexed, state_in}
 use Rattle.lock_server.specs.TicketsView.{place_at, grants_of, SetsPlace}
 use Rattle.lock_server.specs.WaitersView as view
@@ -27,19 +27,19 @@ use Rattle.lock_server.specs.States.{Crosses, GrantsOn}
 use Rattle.lock_server.specs.Waiting.{IsReadyAt}
 use Rattle.lock_server.proofs.CrossLemmas.{CrossesBy-crosses, CrossesBy-ended, CrossesBy-same, CrossesBy-then, Crosses-by}
 use Rattle.lock_server.proofs.EntryMoves.{SameWaiters-itself}
-use Rattle.lock_server.proofs.IndexLemmas.{PutsEntry, same_from_eq}
+use Rattle.lock_server.proofs.IndexLemmas.{same_from_eq}
 use Rattle.lock_server.proofs.ListLemmas.{no_place}
 use Rattle.lock_server.proofs.TableMoves.{WaitersKnown-ended, at_entries, indexed, puts_waits, state_by, tickets_known, waiters_known, waits_in}
 use Rattle.lock_server.proofs.TicketMoves.{PutsWaits, tickets_granted, waited}
 use Rattle.lock_server.proofs.WaiterMoves.{WaitersKnown, waiters_crossed}
 
 -- where a wait is ready the file has an entry, which the map lends
-pub lent_of_ready : (policy : Policy) (files : BTreeMap ℕ LockFile) (file place : ℕ) → IsReadyAt policy (state_in files file) place
-    → (lent : Option (MutBor LockFile)) → option_copied_mut lent ≡ get nat_cmp files file → IsSome lent
+pub lent_of_ready : (policy : Policy) (files : Files) (file place : ℕ) → IsReadyAt policy (state_in files file) place
+    → (lent : Option (MutBor LockFile)) → option_copied_mut lent ≡ entry_in files file → IsSome lent
 lent_of_ready policy files file place h lent h2 = grind (arith, common_steps, no_place)
 
-module _ (old new : BTreeMap ℕ LockFile) (tickets free : Tickets) (was between now : Waiters) (file : ℕ) (before after : LockFile)
-    (is : get nat_cmp old file ≡ Some before) (puts : PutsEntry old new file (Some after)) (known : IsIndexed old tickets was) (policy : Policy)
+module _ (old new : Files) (tickets free : Tickets) (was between now : Waiters) (file : ℕ) (before after : LockFile)
+    (is : entry_in old file ≡ Some before) (puts : PutsEntry old new file (Some after)) (known : IsIndexed old tickets was) (policy : Policy)
     (wait : Pending) (grants : Grants policy (file_state before) wait (file_state after)) where
   stood : waits_in old file ≡ grants.before ++ wait ∷ grants.after
   stood = ap (λ (F : FileState). F.waits) (ap state_at is) ∙ grants.is_next.place

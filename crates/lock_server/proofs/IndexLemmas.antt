@@ -2,39 +2,29 @@
 use Rattle.std.proofs.Common.{arith, ℕ, ◌≡◌, ◌≢◌, ◌==◌, inl, inr, sym, refl, subst, true, Bool, Option, Some, List, [], ◌∷◌, Any}
 use Rattle.std.proofs.lemmas.Grind.{common_steps}
 use Rattle.std.specs.Prelude.{◌&&◌, AllPairs}
-use Rattle.std.specs.BTreeMap.{BTreeMap, UpdatesBy, WritesThrough, get}
 use Rattle.std.specs.Borrow.{MutBor}
-use Rattle.std.specs.Option.{option_copied_mut}
-use Rattle.std.specs.Ordering.{nat_cmp}
+use Rattle.std.specs.Option.{option_copied_mut, option_map}
 use Rattle.std.proofs.lemmas.Bool.{cases_Bool, cases_eq, eqb-true}
 use Rattle.lock_server.specs.declared.Pending.{Pending}
 use Rattle.lock_server.specs.declared.file.LockFile.{LockFile}
+use Rattle.lock_server.specs.declared.files.Files.{Files}
 use Rattle.lock_server.specs.declared.tickets.Tickets.{Tickets}
 use Rattle.lock_server.specs.declared.waiters.Waiters.{Waiters}
 use Rattle.lock_server.specs.Files.{FileState, SameFile}
 use Rattle.lock_server.specs.FileView.{file_state}
+use Rattle.lock_server.specs.FilesView.{PutsEntry, entry_in}
 use Rattle.lock_server.specs.States.{IsDetectedOf}
 use Rattle.lock_server.specs.Index.{IsIndexed, state_in, detected_waits}
 use Rattle.lock_server.proofs.ListLemmas.{Any-here, Any-there}
-use Rattle.lock_server.proofs.TicketLemmas.{is_at-other}
 
--- new has this entry for the file, and all others as old does
-pub record PutsEntry (old new : BTreeMap ℕ LockFile) (file : ℕ) (entry : Option LockFile) : Type 0 where
-  pub here : get nat_cmp new file ≡ entry
-  pub others : (other : ℕ) → other ≢ file → get nat_cmp new other ≡ get nat_cmp old other
-
-pub PutsEntry-updates : (old new : BTreeMap ℕ LockFile) (file : ℕ) (entry : Option LockFile) → UpdatesBy nat_cmp (nat_cmp file) old new entry
-    → PutsEntry old new file entry
-PutsEntry-updates old new file entry updates = record { here = updates.1; others = λ other differs. updates.2 other (is_at-other file other differs) }
-
--- the entry that a map lent, and what a write through it puts there
-pub file_written : (old new : BTreeMap ℕ LockFile) (file : ℕ) (lent : Option (MutBor LockFile)) (locks : MutBor LockFile) (after : LockFile)
-    → option_copied_mut lent ≡ get nat_cmp old file → lent ≡ Some locks
-    → WritesThrough nat_cmp (nat_cmp file) old after new → (get nat_cmp old file ≡ Some locks.now) × PutsEntry old new file (Some after)
-file_written old new file lent locks after value is writes = grind (arith, common_steps, PutsEntry-updates)
+-- the entry that was lent, and what a write through it puts there
+pub file_written : (old new : Files) (file : ℕ) (lent : Option (MutBor LockFile)) (locks : MutBor LockFile) (after : LockFile)
+    → option_copied_mut lent ≡ entry_in old file → lent ≡ Some locks
+    → PutsEntry old new file (option_map (λ _. after) (entry_in old file)) → (entry_in old file ≡ Some locks.now) × PutsEntry old new file (Some after)
+file_written old new file lent locks after value is writes = grind (arith, common_steps)
 
 -- a file that keeps its waits leaves those of every file
-pub waits_kept : (old new : BTreeMap ℕ LockFile) (file : ℕ) (before after : LockFile) → PutsEntry old new file (Some after) → get nat_cmp old file ≡ Some before
+pub waits_kept : (old new : Files) (file : ℕ) (before after : LockFile) → PutsEntry old new file (Some after) → entry_in old file ≡ Some before
     → (file_state after).waits ≡ (file_state before).waits → (other : ℕ) → (state_in new other).waits ≡ (state_in old other).waits
 waits_kept old new file before after puts was same other = grind (arith, common_steps, cases_eq)
 
@@ -43,7 +33,7 @@ pub same_from_eq : (F G : FileState) → G ≡ F → SameFile F G
 same_from_eq F G e = grind (arith, common_steps)
 
 -- what is known holds where each file has the waits that it had
-pub IsIndexed-same : (old new : BTreeMap ℕ LockFile) (tickets : Tickets) (waiters : Waiters)
+pub IsIndexed-same : (old new : Files) (tickets : Tickets) (waiters : Waiters)
     → ((file : ℕ) → (state_in new file).waits ≡ (state_in old file).waits)
     → IsIndexed old tickets waiters → IsIndexed new tickets waiters
 IsIndexed-same old new tickets waiters same known = record {

@@ -13,7 +13,7 @@ use Rattle.wait_core.specs.declared.Family.{Family}
 use Rattle.wait_core.specs.declared.Family.TheVariants.{Bytes, Whole}
 use Rattle.wait_core.specs.declared.Policy.{Policy}
 use Rattle.lock_server.specs.declared.Pending.{Pending}
-use Rattle.lock_server.specs.declared.file.LockFile.{LockFile}
+use Rattle.lock_server.specs.declared.files.Files.{Files}
 use Rattle.lock_server.specs.declared.table.Table.{Table}
 use Rattle.lock_server.specs.declared.tickets.Tickets.{Tickets}
 use Rattle.lock_server.specs.declared.waiters.Waiters.{Waiters}
@@ -21,7 +21,6 @@ use Rattle.lock_server.specs.Deadlock.{BlocksIn, ClosesCycle, IsBlockedByOwner, 
 use Rattle.lock_server.specs.Files.{FileState, untouched}
 use Rattle.lock_server.specs.Index.{IsIndexed, detected_waits, state_in}
 use Rattle.lock_server.specs.TableView.{entry_of, table_state}
-use Rattle.std.specs.BTreeMap.{BTreeMap}
 use Rattle.lock_server.specs.Blockers.{AddsGoingOn, AddsOnce, AddsOwners, IsGoingOn, SomeLeadsTo}
 use Rattle.lock_server.specs.WaitersView.{files_of, times}
 use Rattle.lock_server.proofs.ChainLemmas.{first_step}
@@ -128,7 +127,7 @@ times_place file (other ∷ files) some = elim (cases_eq other file) [
 ]
 
 -- an owner that waits on the file has it among its files
-pub file_of_step : (policy : Policy) (files : BTreeMap ℕ LockFile) (tickets : Tickets) (waiters : Waiters) → IsIndexed files tickets waiters
+pub file_of_step : (policy : Policy) (files : Files) (tickets : Tickets) (waiters : Waiters) → IsIndexed files tickets waiters
     → (owner file other : ℕ)
     → WaitsForOn policy (state_in files file) owner other → Contains (files_of waiters owner) file
 file_of_step policy files tickets waiters known owner file other step =
@@ -142,7 +141,7 @@ file_of_step policy files tickets waiters known owner file other step =
     times_place file (files_of waiters owner) (λ none. omega arith)
 
 -- an owner that waits goes on
-pub waits_goes_on : (policy : Policy) (files : BTreeMap ℕ LockFile) (tickets : Tickets) (waiters : Waiters) → IsIndexed files tickets waiters
+pub waits_goes_on : (policy : Policy) (files : Files) (tickets : Tickets) (waiters : Waiters) → IsIndexed files tickets waiters
     → (target owner file other : ℕ)
     → WaitsForOn policy (state_in files file) owner other → IsGoingOn waiters target owner
 waits_goes_on policy files tickets waiters known target owner file other step =

@@ -1,7 +1,5 @@
 -- The entries of files: for `Table::add_steps`, `Table::blocker`, `Table::blocks` and `Table::holds_back`.
 use Rattle.std.proofs.Common.{ℕ, ◌≡◌, ◌∙◌, sym, ap, arith, Option, Some, None, inl, inr, []}
-use Rattle.std.specs.Ordering.{nat_cmp}
-use Rattle.std.specs.BTreeMap.{get}
 use Rattle.std.specs.Borrow.{Bor}
 use Rattle.std.specs.Option.{option_copied}
 use Rattle.range_core.specs.declared.Mode.{Mode}
@@ -21,17 +19,18 @@ use Rattle.lock_server.proofs.ListLemmas.{Any-nil}
 use Rattle.lock_server.specs.declared.file.LockFile.{LockFile}
 use Rattle.lock_server.specs.declared.table.Table.{Table}
 use Rattle.lock_server.specs.FileView.{file_state, state_at}
+use Rattle.lock_server.specs.FilesView.{entry_in}
 use Rattle.lock_server.specs.TableView.{table_state, entry_of}
 
 -- a file with an entry has its state
 pub found_state : (table : Table) (file : ℕ) (found : Option (Bor LockFile)) (locks : Bor LockFile)
-    → option_copied found ≡ get nat_cmp table.files file → found ≡ Some locks
+    → option_copied found ≡ entry_in table.files file → found ≡ Some locks
     → (table_state table).files file ≡ file_state locks.now
 unfolding table_state entry_of
 found_state table file found locks value is = ap state_at (sym value ∙ ap option_copied is)
 
 -- and one without an entry is untouched
-pub not_found_state : (table : Table) (file : ℕ) (found : Option (Bor LockFile)) → option_copied found ≡ get nat_cmp table.files file → found ≡ None
+pub not_found_state : (table : Table) (file : ℕ) (found : Option (Bor LockFile)) → option_copied found ≡ entry_in table.files file → found ≡ None
     → (table_state table).files file ≡ untouched
 unfolding table_state entry_of
 not_found_state table file found value is = ap state_at (sym value ∙ ap option_copied is)

@@ -1,44 +1,45 @@
 -- What is known of tickets and of owners, and the states of two tables, where the entry of one file changes: for `Table::give_back`,
 -- `Table::next_grant`, `Table::release` and `Table::release_flock`.
-use Rattle.std.proofs.Common.{rules, arith, ℕ, ◌≡◌, ◌≢◌, ◌∙◌, sym, ap, refl, true, false, Bool, Option, Some, None, List, [], ◌∷◌, ◌++◌}
+use Rattle.std.proofs.Common.{rules, arith, ℕ, ◌≡◌, ◌≢◌, ◌∙◌, sym, ap, subst, refl, inl, inr, true, false, Bool, Option, Some, None, List, [], ◌∷◌, ◌++◌}
 use Rattle.std.proofs.lemmas.Grind.{common_steps}
-use Rattle.std.specs.BTreeMap.{BTreeMap, get}
-use Rattle.std.specs.Ordering.{nat_cmp}
+use Rattle.std.proofs.lemmas.Bool.{cases_eq}
 use Rattle.range_core.specs.declared.Mode.{Mode}
 use Rattle.lock_server.specs.declared.Pending.{Pending}
 use Rattle.lock_server.specs.declared.file.LockFile.{LockFile}
+use Rattle.lock_server.specs.declared.files.Files.{Files}
 use Rattle.lock_server.specs.declared.tickets.Tickets.{Tickets}
 use Rattle.lock_server.specs.declared.waiters.Waiters.{Waiters}
-use Rattle.lock_server.specs.Files.{FileState}
+use Rattle.lock_server.specs.Files.{FileState, SameFile}
 use Rattle.lock_server.specs.FileView.{file_state, state_at}
+use Rattle.lock_server.specs.FilesView.{PutsEntry, entry_in}
 use Rattle.lock_server.specs.Index.{IsIndexed, state_in}
 use Rattle.lock_server.specs.TicketsView.{grants_of}
 use Rattle.lock_server.specs.WaitersView.{crossed_of, SameWaiters, BeginsIf, CrossesIf, EndsIf}
-use Rattle.lock_server.specs.States.{State, ChangesFile}
-use Rattle.lock_server.proofs.IndexLemmas.{PutsEntry, same_from_eq}
+use Rattle.lock_server.specs.States.{State, ChangesFile, SameState}
+use Rattle.lock_server.proofs.IndexLemmas.{same_from_eq}
 use Rattle.lock_server.proofs.TicketMoves.{TicketsKnown, PutsWaits}
 use Rattle.lock_server.proofs.WaiterMoves.{WaitersKnown, waiters_crossed, waiters_joined, waiters_kept, waiters_left, waiters_passed, waiters_unmoved}
 use Rattle.lock_server.proofs.CrossLemmas.{CrossesBy, Crosses-by}
 
 -- the waits on each file, by these entries
-abbrev pub waits_in : BTreeMap ℕ LockFile → ℕ → List Pending
+abbrev pub waits_in : Files → ℕ → List Pending
 waits_in files file = (state_in files file).waits
 
 -- what is known in all is what is known of tickets and what is known of owners
-pub tickets_known : (files : BTreeMap ℕ LockFile) (tickets : Tickets) (waiters : Waiters) → IsIndexed files tickets waiters
+pub tickets_known : (files : Files) (tickets : Tickets) (waiters : Waiters) → IsIndexed files tickets waiters
     → TicketsKnown (waits_in files) tickets
 tickets_known files tickets waiters known =
     record { pending = known.pending; granted = known.granted; once_on_a_file = known.once_on_a_file; granted_once = known.granted_once }
 
-pub waiters_known : (files : BTreeMap ℕ LockFile) (tickets : Tickets) (waiters : Waiters) → IsIndexed files tickets waiters
+pub waiters_known : (files : Files) (tickets : Tickets) (waiters : Waiters) → IsIndexed files tickets waiters
     → WaitersKnown (waits_in files) waiters
 waiters_known files tickets waiters known = record { detected = known.detected; crossed = known.crossed }
 
-pub indexed : (files : BTreeMap ℕ LockFile) (tickets : Tickets) (waiters : Waiters) → TicketsKnown (waits_in files) tickets
+pub indexed : (files : Files) (tickets : Tickets) (waiters : Waiters) → TicketsKnown (waits_in files) tickets
     → WaitersKnown (waits_in files) waiters → IsIndexed files tickets waiters
 indexed files tickets waiters of_tickets of_waiters = search (rules)
 
-module _ (old new : BTreeMap ℕ LockFile) (file : ℕ) (after : LockFile) (puts : PutsEntry old new file (Some after)) where
+module _ (old new : Files) (file : ℕ) (after : LockFile) (puts : PutsEntry old new file (Some after)) where
   -- the file has the state of its new entry
   pub now_at : state_in new file ≡ file_state after
   now_at = ap state_at puts.here
@@ -77,12 +78,12 @@ module _ (waits rest : ℕ → List Pending) (was now : Waiters) (file : ℕ) (w
   WaitersKnown-begun puts true is begins known = waiters_joined waits rest was now file wait known is puts begins
 
 -- the state that these stand for, as the state of a table
-abbrev pub state_by : BTreeMap ℕ LockFile → Tickets → Waiters → State
+abbrev pub state_by : Files → Tickets → Waiters → State
 state_by files tickets waiters = record { files = state_in files; grants = grants_of tickets; crossed = crossed_of waiters }
 
 -- one file changes, and these owners are given locks
-pub changes_by : (old new : BTreeMap ℕ LockFile) (tickets after : Tickets) (was now : Waiters) (file : ℕ) (given : List ℕ)
-    → ((other : ℕ) → other ≢ file → get nat_cmp new other ≡ get nat_cmp old other)
+pub changes_by : (old new : Files) (tickets after : Tickets) (was now : Waiters) (file : ℕ) (given : List ℕ)
+    → ((other : ℕ) → other ≢ file → entry_in new other ≡ entry_in old other)
     → grants_of after ≡ grants_of tickets → WaitersKnown (waits_in new) now → CrossesBy was given now
     → ChangesFile (state_by old tickets was) file given (state_by new after now)
 changes_by old new tickets after was now file given others grants known crosses = record {
@@ -92,7 +93,20 @@ changes_by old new tickets after was now file given others grants known crosses 
 }
 
 -- what holds of two entries holds of the states of the file
-pub at_entries : (old new : BTreeMap ℕ LockFile) (file : ℕ) (before after : LockFile) (P : FileState → FileState → Type 0)
-    → get nat_cmp old file ≡ Some before → PutsEntry old new file (Some after)
+pub at_entries : (old new : Files) (file : ℕ) (before after : LockFile) (P : FileState → FileState → Type 0)
+    → entry_in old file ≡ Some before → PutsEntry old new file (Some after)
     → P (file_state before) (file_state after) → P (state_in old file) (state_in new file)
 at_entries old new file before after P was puts holds = grind (arith, common_steps)
+
+-- an entry that stands for the same leaves the state
+pub same_by : (old new : Files) (tickets : Tickets) (waiters : Waiters) (file : ℕ) (before after : LockFile)
+    → entry_in old file ≡ Some before → PutsEntry old new file (Some after) → SameFile (file_state before) (file_state after)
+    → SameState (state_by old tickets waiters) (state_by new tickets waiters)
+same_by old new tickets waiters file before after was puts same = record {
+  files = λ other. elim (cases_eq other file) [
+    | inl here ↦ subst (λ (f : ℕ). SameFile (state_in old f) (state_in new f)) (sym here) (at_entries old new file before after SameFile was puts same)
+    | inr differs ↦ same_from_eq (state_in old other) (state_in new other) (ap state_at (puts.others other differs))
+  ];
+  grants = refl;
+  crossed = λ owner. refl;
+}

@@ -13,6 +13,7 @@ pub mod Safety
 pub mod Room
 pub mod FlockOwners
 pub mod FileView
+pub mod FilesView
 pub mod Listing
 pub mod ListingLaws
 pub mod Waiting

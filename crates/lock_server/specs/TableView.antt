@@ -1,12 +1,11 @@
 -- What a table stands for (the words are this project's choice).
 use Rattle.std.specs.Prelude.{◌≡◌, ◌≢◌, ℕ, Bool, [], Option, Some}
-use Rattle.std.specs.BTreeMap.{get}
-use Rattle.std.specs.Ordering.{nat_cmp}
 use Rattle.wait_core.specs.declared.Policy.{Policy}
 use Rattle.lock_server.specs.declared.file.LockFile.{LockFile}
 use Rattle.lock_server.specs.declared.table.Table.{Table}
 use Rattle.lock_server.specs.Clients.{StripsLocks}
 use Rattle.lock_server.specs.FileView.{state_at}
+use Rattle.lock_server.specs.FilesView.{entry_in}
 use Rattle.lock_server.specs.Files.{SameFile, untouched}
 use Rattle.lock_server.specs.Safety.{IsSafe}
 use Rattle.lock_server.specs.TicketsView.{grants_of}
@@ -15,7 +14,7 @@ use Rattle.lock_server.specs.States.{State, ChangesFile}
 
 -- the entry of the file, where it has a lock or a wait
 unfoldable pub entry_of : Table → ℕ → Option LockFile
-entry_of table file = get nat_cmp table.files file
+entry_of table file = entry_in table.files file
 
 -- the file has an entry
 pub record HasEntry (table : Table) (file : ℕ) : Type 0 where

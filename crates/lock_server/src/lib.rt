@@ -7,6 +7,7 @@ mod blocking;
 mod closing;
 mod converting;
 mod file;
+mod files;
 mod freed;
 mod holdings;
 mod hull;

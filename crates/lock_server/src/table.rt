@@ -19,11 +19,10 @@ mod restoring;
 mod settling;
 mod waiting;
 
-use crate::file::LockFile;
+use crate::files::Files;
 use crate::tickets::Tickets;
 use crate::waiters::Waiters;
 use std::alloc::Global;
-use std::collections::BTreeMap;
 
 /// The files that have a lock or a wait, and what is known of tickets and of owners. What is said of them here holds at every
 /// moment, also inside a call.
@@ -31,7 +30,7 @@ use std::collections::BTreeMap;
 pub struct Table {
     alloc: Global,
     /// By file: those with a lock or a wait.
-    files: BTreeMap<u64, LockFile>,
+    files: Files,
     tickets: Tickets,
     waiters: Waiters,
     ghost indexed: { IsIndexed files tickets waiters },
@@ -49,7 +48,7 @@ impl Table {
     {
         Table {
             alloc,
-            files: BTreeMap::new(alloc),
+            files: Files::new(alloc),
             tickets: Tickets::new(alloc),
             waiters: Waiters::new(alloc),
         }

@@ -127,6 +127,7 @@ impl Table {
     }
 
     /// The least file with an entry, above this one where one is given.
+    #[tactic(auto, unfolding(crate::specs::TableView::table_state, crate::specs::TableView::entry_of, crate::specs::FilesView::entry_in))]
     pub fn next_file(&self, above: Option<u64>) -> Option<u64>
         ensures above { IfSome result (λ file. MatchOption above (Unit {0}) (λ least. least < file)) }
         ensures entry { IfSome result (HasEntry self.now) }
@@ -139,7 +140,11 @@ impl Table {
             None => Bound::Unbounded,
             Some(file) => Bound::Excluded(file),
         };
-        let (file, _) = self.files.range((first, Bound::Unbounded)).next()?;
+        let (file, _) = self
+            .files
+            .by_number()
+            .range((first, Bound::Unbounded))
+            .next()?;
         Some(*file)
     }
 }

@@ -15,8 +15,8 @@ impl Table {
         requires { AreSwept self.now }
         ensures { PutsSome (AreFiles (table_state self.now)) (listed file_words) out.old at out.new result }
     {
-        let mut behind = words::put(out, at, self.files.len() as u64);
-        for (number, file) in &self.files {
+        let mut behind = words::put(out, at, self.files.by_number().len() as u64);
+        for (number, file) in self.files.by_number() {
             behind = file.put(out, behind, *number);
         }
         behind

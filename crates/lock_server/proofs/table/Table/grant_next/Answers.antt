@@ -1,8 +1,7 @@
 use Rattle.std.proofs.Common.{ap, subst, sym}
-use Rattle.std.specs.BTreeMap.{get}
-use Rattle.std.specs.Ordering.{nat_cmp}
 use Rattle.lock_server.specs.Files.{FileState}
 use Rattle.lock_server.specs.FileView.{file_state, state_at}
+use Rattle.lock_server.specs.FilesView.{entry_in}
 use Rattle.lock_server.specs.Freed.{AreBlockedBut, IsKnown}
 use Rattle.lock_server.specs.TableView.{entry_of, table_state}
 use Rattle.lock_server.specs.Waiting.{IsReadyAt}
@@ -21,7 +20,7 @@ grant-requires c =
     let table = c.args.self.now in
     let after = c.grant-granted.new.self in
     let written = file_written table.files (c.get_mut.follows.lender after) c.args.file _ c.unwrap-locks.result after c.get_mut.ensures.value c.unwrap-locks.ensures (c.get_mut.follows.holds after) in
-    let ready : IsReadyAt c.args.policy (state_at (get nat_cmp table.files c.args.file)) c.in-Some.place = c.in-Some.ensures.ready in
+    let ready : IsReadyAt c.args.policy (state_at (entry_in table.files c.args.file)) c.in-Some.place = c.in-Some.ensures.ready in
     let grants =
     c.grant-granted.ensures.granted
     (subst (λ (F : FileState). IsReadyAt c.args.policy F c.in-Some.place) (ap state_at written.0) ready) in (
@@ -35,7 +34,7 @@ invariant_of-self c =
     let table = c.args.self.now in
     let after = c.grant-granted.new.self in
     let written = file_written table.files (c.get_mut.follows.lender after) c.args.file _ c.unwrap-locks.result after c.get_mut.ensures.value c.unwrap-locks.ensures (c.get_mut.follows.holds after) in
-    let ready : IsReadyAt c.args.policy (state_at (get nat_cmp table.files c.args.file)) c.in-Some.place = c.in-Some.ensures.ready in
+    let ready : IsReadyAt c.args.policy (state_at (entry_in table.files c.args.file)) c.in-Some.place = c.in-Some.ensures.ready in
     let grants =
     c.grant-granted.ensures.granted
     (subst (λ (F : FileState). IsReadyAt c.args.policy F c.in-Some.place) (ap state_at written.0) ready) in
@@ -50,7 +49,7 @@ returns-clause-granted c =
     let table = c.args.self.now in
     let after = c.grant-granted.new.self in
     let written = file_written table.files (c.get_mut.follows.lender after) c.args.file _ c.unwrap-locks.result after c.get_mut.ensures.value c.unwrap-locks.ensures (c.get_mut.follows.holds after) in
-    let ready : IsReadyAt c.args.policy (state_at (get nat_cmp table.files c.args.file)) c.in-Some.place = c.in-Some.ensures.ready in
+    let ready : IsReadyAt c.args.policy (state_at (entry_in table.files c.args.file)) c.in-Some.place = c.in-Some.ensures.ready in
     let grants =
     c.grant-granted.ensures.granted
     (subst (λ (F : FileState). IsReadyAt c.args.policy F c.in-Some.place) (ap state_at written.0) ready) in (
@@ -65,7 +64,7 @@ returns-clause-room c =
     let table = c.args.self.now in
     let after = c.grant-granted.new.self in
     let written = file_written table.files (c.get_mut.follows.lender after) c.args.file _ c.unwrap-locks.result after c.get_mut.ensures.value c.unwrap-locks.ensures (c.get_mut.follows.holds after) in
-    let ready : IsReadyAt c.args.policy (state_at (get nat_cmp table.files c.args.file)) c.in-Some.place = c.in-Some.ensures.ready in
+    let ready : IsReadyAt c.args.policy (state_at (entry_in table.files c.args.file)) c.in-Some.place = c.in-Some.ensures.ready in
     let grants =
     c.grant-granted.ensures.granted
     (subst (λ (F : FileState). IsReadyAt c.args.policy F c.in-Some.place) (ap state_at written.0) ready) in
@@ -79,8 +78,8 @@ returns-clause-known c =
     let table = c.args.self.now in
     let after = c.grant-granted.new.self in
     let written = file_written table.files (c.get_mut.follows.lender after) c.args.file _ c.unwrap-locks.result after c.get_mut.ensures.value c.unwrap-locks.ensures (c.get_mut.follows.holds after) in
-    let ready : IsReadyAt c.args.policy (state_at (get nat_cmp table.files c.args.file)) c.in-Some.place = c.in-Some.ensures.ready in
-    let others : AreBlockedBut c.args.policy (state_at (get nat_cmp table.files c.args.file)) c.args.known.freed = c.requires.others in
+    let ready : IsReadyAt c.args.policy (state_at (entry_in table.files c.args.file)) c.in-Some.place = c.in-Some.ensures.ready in
+    let others : AreBlockedBut c.args.policy (state_at (entry_in table.files c.args.file)) c.args.known.freed = c.requires.others in
     let here = subst (λ (F : FileState). IsReadyAt c.args.policy F c.in-Some.place) (ap state_at written.0) ready in
     let at : IsKnown c.args.policy (file_state after) c.grant-granted.result.known =
     record {

@@ -1,12 +1,13 @@
 use Rattle.std.proofs.Common.{arith, ◌≡◌, Some}
 use Rattle.std.proofs.lemmas.Grind.{common_steps}
+use Rattle.lock_server.specs.FilesView.{entry_in}
 use Rattle.lock_server.specs.TableView.{entry_of}
 use Rattle.lock_server.proofs.table.Table.next_file.Goals as goal
 use Rattle.lock_server.proofs.table.Table.next_file.Goals.{in-None, in-Some}
 
 pub returns-clause-entry : goal.returns-clause-entry
-unfolding entry_of
+unfolding entry_of entry_in
 returns-clause-entry c =
-    let is : entry_of c.args.self.now c.in_ok-file.file.now ≡ Some c.in_ok-file.field-0-1.now =
+    let is : entry_of c.args.self.now c.in_ok-file.file.now ≡ Some c.in_ok-file.field-0-1.now.value =
     elim c.match-above.branch [ in-None w ↦ grind (arith, common_steps) | in-Some w ↦ grind (arith, common_steps) ] in
-    record { entry = c.in_ok-file.field-0-1.now; is = is }
+    record { entry = c.in_ok-file.field-0-1.now.value; is = is }

@@ -1,8 +1,7 @@
-use Rattle.std.proofs.Common.{ℕ, ◌∙◌, ap, subst, sym}
-use Rattle.std.specs.BTreeMap.{BTreeMap}
+use Rattle.std.proofs.Common.{◌∙◌, ap, subst, sym}
 use Rattle.std.specs.Option.{option_copied_mut}
 use Rattle.wait_core.specs.declared.Family.TheVariants.{Whole}
-use Rattle.lock_server.specs.declared.file.LockFile.{LockFile}
+use Rattle.lock_server.specs.declared.files.Files.{Files}
 use Rattle.lock_server.specs.Calls.{ReleasesOn}
 use Rattle.lock_server.specs.TableView.{entry_of, table_state}
 use Rattle.lock_server.proofs.IndexLemmas.{file_written}
@@ -31,6 +30,6 @@ pub returns-in_default-clause-releases : goal.returns-in_default-clause-releases
 unfolding table_state entry_of
 returns-in_default-clause-releases c =
     let table = c.args.self.now in
-    subst (λ (m : BTreeMap ℕ LockFile). ReleasesOn (state_by table.files table.tickets table.waiters) c.args.file Whole c.args.owner (state_by m table.tickets table.waiters))
+    subst (λ (m : Files). ReleasesOn (state_by table.files table.tickets table.waiters) c.args.file Whole c.args.owner (state_by m table.tickets table.waiters))
     (sym c.get_mut.follows.holds-at-none)
     (releases_nothing table.files table.tickets table.waiters c.args.file Whole c.args.owner table.indexed (sym c.get_mut.ensures.value ∙ ap option_copied_mut c.in_default.is))

@@ -1,13 +1,12 @@
-use Rattle.std.proofs.Common.{◌≡◌, ◌∙◌, sym, subst, true, false, Option, Some, None, Result, Ok, Err}
-use Rattle.std.specs.Prelude.{is_some, OnErr}
-use Rattle.std.specs.BTreeMap.{get}
-use Rattle.std.specs.Ordering.{nat_cmp}
+use Rattle.std.proofs.Common.{◌≡◌, ◌∙◌, sym, subst, true, false, Option, Some, None}
+use Rattle.std.specs.Prelude.{is_some}
 use Rattle.std.proofs.lemmas.Bool.{false≢true}
 use Rattle.range_core.specs.declared.Mode.{Mode}
 use Rattle.wait_core.specs.declared.Family.TheVariants.{Bytes}
+use Rattle.lock_server.specs.FilesView.{entry_in}
 use Rattle.lock_server.specs.Calls.{SetsOn}
 use Rattle.lock_server.specs.TableView.{HasEntry, entry_of, table_state}
-use Rattle.lock_server.proofs.EntryMoves.{none_from_test, some_from_test, unlocks_nothing}
+use Rattle.lock_server.proofs.EntryMoves.{none_from_test, on_err, some_from_test, unlocks_nothing}
 use Rattle.lock_server.proofs.table.Table.set.Goals.{else-is_none-via-then-is_none+else-not-contains_key, else-is_none-via-else-is_none}
 use Rattle.lock_server.proofs.table.Table.set.Goals as goal
 
@@ -15,7 +14,7 @@ pub returns-then-not-contains_key-clause-ok : goal.returns-then-not-contains_key
 unfolding table_state entry_of
 returns-then-not-contains_key-clause-ok c =
     let table = c.args.self.now in
-    let found = get nat_cmp table.files c.args.file in
+    let found = entry_in table.files c.args.file in
     let test : is_some found ≡ false = sym c.if-not-contains_key.ensures in
     let unlock : is_some c.args.mode ≡ false = c.if-is_none.ensures in
     subst (λ (mode : Option Mode). SetsOn (table_state table) c.args.file Bytes c.args.owner c.args.span mode (table_state table)) (sym (none_from_test c.args.mode unlock))
@@ -25,7 +24,7 @@ pub returns-in_err-open-clause-unlock : goal.returns-in_err-open-clause-unlock
 unfolding entry_of
 returns-in_err-open-clause-unlock c unlock whole =
     let table = c.args.self.now in
-    let found = get nat_cmp table.files c.args.file in
+    let found = entry_in table.files c.args.file in
     let there : HasEntry table c.args.file = elim c.else-is_none.branch [
       | else-is_none-via-then-is_none+else-not-contains_key w ↦
           let test : is_some found ≡ true = sym w.if-not-contains_key.ensures in
@@ -35,10 +34,6 @@ returns-in_err-open-clause-unlock c unlock whole =
           let mode = some_from_test c.args.mode test in absurd (let none : None ≡ Some mode.0 = sym unlock ∙ mode.1 in cc)
     ] in
     absurd (false≢true (c.in_err-open.ensures.there there))
-
-on_err : {X E : Type 0} (told : Result X E) (P : Type 0) → P → OnErr told P
-on_err (Ok done) P holds = tt
-on_err (Err memory) P holds = holds
 
 pub returns-in_err-open-clause-swept : goal.returns-in_err-open-clause-swept
 returns-in_err-open-clause-swept c = on_err c.from_residual.result _ c.in_err-open.ensures.swept

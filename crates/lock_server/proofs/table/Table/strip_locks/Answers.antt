@@ -1,7 +1,6 @@
-use Rattle.std.proofs.Common.{ℕ, ◌∙◌, ap, subst, sym}
-use Rattle.std.specs.BTreeMap.{BTreeMap}
+use Rattle.std.proofs.Common.{◌∙◌, ap, subst, sym}
 use Rattle.std.specs.Option.{option_copied_mut}
-use Rattle.lock_server.specs.declared.file.LockFile.{LockFile}
+use Rattle.lock_server.specs.declared.files.Files.{Files}
 use Rattle.lock_server.specs.Clients.{is_within}
 use Rattle.lock_server.specs.TableView.{StripsLocksOn, entry_of, table_state}
 use Rattle.lock_server.proofs.ClientLemmas.{strips_by, strips_nothing}
@@ -31,6 +30,6 @@ pub returns-in_default-clause-strips : goal.returns-in_default-clause-strips
 unfolding table_state entry_of
 returns-in_default-clause-strips c =
     let table = c.args.self.now in
-    subst (λ (m : BTreeMap ℕ LockFile). StripsLocksOn (state_by table.files table.tickets table.waiters) c.args.file (is_within c.args.owners.first c.args.owners.last) (state_by m table.tickets table.waiters))
+    subst (λ (m : Files). StripsLocksOn (state_by table.files table.tickets table.waiters) c.args.file (is_within c.args.owners.first c.args.owners.last) (state_by m table.tickets table.waiters))
     (sym c.get_mut.follows.holds-at-none)
     (strips_nothing table.files table.tickets table.waiters c.args.file (is_within c.args.owners.first c.args.owners.last) table.indexed (sym c.get_mut.ensures.value ∙ ap option_copied_mut c.in_default.is))

@@ -1,18 +1,16 @@
 use Rattle.std.proofs.Common.{◌≡◌, ◌∙◌, ap, sym, None, Some, Option}
-use Rattle.std.specs.BTreeMap.{get}
 use Rattle.std.specs.Option.{option_copied}
-use Rattle.std.specs.Ordering.{nat_cmp}
 use Rattle.lock_server.specs.declared.file.LockFile.{LockFile}
 use Rattle.lock_server.specs.FileView.{state_at}
-use Rattle.lock_server.proofs.IndexLemmas.{PutsEntry-updates}
+use Rattle.lock_server.specs.FilesView.{entry_in}
 use Rattle.lock_server.proofs.EntryMoves.{put_indexed}
 use Rattle.lock_server.proofs.table.Table.sweep.Goals as goal
 
 pub invariant_of-self : goal.invariant_of-self
 invariant_of-self c =
     let table = c.args.self.now in
-    let was : get nat_cmp table.files c.args.file ≡ Some c.in-Some.locks.now = sym c.get.ensures.value ∙ ap option_copied c.in-Some.is in
+    let was : entry_in table.files c.args.file ≡ Some c.in-Some.locks.now = sym c.get.ensures.value ∙ ap option_copied c.in-Some.is in
     let same = c.is_untouched.ensures.0 c.if-is_untouched.true in record {
-      indexed = put_indexed table.files c.remove.new.self table.tickets table.waiters c.args.file None (PutsEntry-updates table.files c.remove.new.self c.args.file None c.remove.ensures.updates)
+      indexed = put_indexed table.files c.remove.new.self table.tickets table.waiters c.args.file None c.remove.ensures
           (same.waits ∙ sym (ap (λ (found : Option LockFile). (state_at found).waits) was)) table.indexed;
     }
