@@ -1,11 +1,11 @@
 -- Who blocks a lock, read off the lists of owners: for `blocked`, `first_hit` and `process_blocks`.
-use Rattle.std.proofs.Common.{rules, ℕ, ◌≡◌, ◌≢◌, ◌<◌, ◌≤◌, ◌↔◌, ◌∙◌, sym, ap, refl, subst, arith, true, false, Option, Some, None, List, [], ◌∷◌, ◌++◌, All, Any, map}
+use Rattle.std.proofs.Common.{ℕ, ◌≡◌, ◌≢◌, ◌<◌, ◌≤◌, ◌↔◌, ◌∙◌, sym, ap, refl, subst, arith, true, false, Option, Some, None, List, [], ◌∷◌, ◌++◌, All, Any, map}
 use Rattle.std.proofs.lemmas.Grind.{common_steps}
 use Rattle.std.specs.Prelude.{is_some, nat_lt, IsTrue, IfSome, IfNone, MatchOption}
 use Rattle.std.specs.Borrow.{Bor}
 use Rattle.std.specs.Map.Iter.{TakesFirst, deref_pair}
 use Rattle.std.specs.Iterator.{Yields}
-use Rattle.std.specs.BTreeMap.{IsOrdered, get}
+use Rattle.std.specs.Map.{lookup}
 use Rattle.std.specs.declared.cmp.Ordering.TheVariants.{Less}
 use Rattle.std.proofs.lemmas.Bool.{ltb-true, ltb-false}
 use Rattle.std.proofs.lemmas.List.Elements.{All-push, All-weaker, All-get_or}
@@ -20,12 +20,12 @@ use Rattle.lock_book.specs.declared.book.Book.{Book}
 use Rattle.lock_book.specs.Owners.{is_same_owner, IsBefore}
 use Rattle.lock_book.specs.Conflicts.{ByteModes, Blocks, ByteConflict, ProcessBlocks, IsFirstBlocked}
 use Rattle.lock_book.specs.Books.{list_of, byte_modes_of}
-use Rattle.lock_book.specs.OwnerLists.{modes_in_list}
+use Rattle.lock_book.specs.OwnerLists.{AreFound, AreRising, modes_in_list}
 use Rattle.range_core.specs.Changes.{modes_of}
-use Rattle.lock_book.proofs.BookLemmas.{list_of-get, byte_modes_of-list}
+use Rattle.lock_book.proofs.BookLemmas.{list_of-lookup, byte_modes_of-list}
 use Rattle.lock_book.proofs.ListLemmas.{Any-append_left}
 use Rattle.lock_book.proofs.LoopLemmas.{next_in_loop, earlier_in_loop, later_in_loop, found_in_loop, found_in_part}
-use Rattle.lock_book.proofs.OwnerLemmas.{owner_cmp, same_owner, IsBefore-asymmetric, IsBefore-from_less}
+use Rattle.lock_book.proofs.OwnerLemmas.{owner_cmp, sorted_from_rising, same_owner, IsBefore-asymmetric, IsBefore-from_less}
 
 -- a process other than the owner blocks where its list has a hit
 pub ProcessBlocks-hit : (modes : ByteModes) (process : ℕ) (owner : Owner) (span : Span) (wanted : Mode) (hit : Option ℕ) → Process process ≢ owner
@@ -171,29 +171,31 @@ module _ (modes : ByteModes) (owner : Owner) (span : Span) (wanted : Mode) where
       least_not_lower items found x byte least hit (ltb-false byte found.0 (sym lower)) earlier
 
 -- the next entry of a loop has its owner's modes
-pub modes_in_loop : (book : Book) (items : List Item) (s t u : List (Owner × RangeList)) (r : Option Item) (x : Item) → s ≡ book.owners.entries
+pub modes_in_loop : (book : Book) (items : List Item) (s t u : List (Owner × RangeList)) (r : Option Item) (x : Item) → s ≡ book.owners
     → Yields (TakesFirst deref_pair) s items t → r ≡ Some x → TakesFirst deref_pair t r u
-    → All (λ e. get owner_cmp book.owners e.0 ≡ Some e.1) book.owners.entries → byte_modes_of book x.0.now ≡ modes_of x.1.now
+    → AreFound book.owners → byte_modes_of book x.0.now ≡ modes_of x.1.now
 modes_in_loop book items s t u r x start yields is step all =
     byte_modes_of-list book x.0.now (Some x.1.now)
-    (list_of-get book x.0.now ∙ next_in_loop (λ e. get owner_cmp book.owners e.0 ≡ Some e.1) book.owners.entries items s t u r x start yields is step all)
+    (list_of-lookup book x.0.now ∙ next_in_loop (λ e. lookup (is_same_owner e.0) book.owners ≡ Some e.1) book.owners items s t u r x start yields is step all)
 
 -- and comes after the entries so far
-pub before_in_loop : (book : Book) (items : List Item) (s t u : List (Owner × RangeList)) (r : Option Item) (x : Item) → s ≡ book.owners.entries
-    → Yields (TakesFirst deref_pair) s items t → r ≡ Some x → TakesFirst deref_pair t r u → IsOrdered owner_cmp book.owners
+pub before_in_loop : (book : Book) (items : List Item) (s t u : List (Owner × RangeList)) (r : Option Item) (x : Item) → s ≡ book.owners
+    → Yields (TakesFirst deref_pair) s items t → r ≡ Some x → TakesFirst deref_pair t r u → AreRising book.owners
     → All (λ y. IsBefore y.0.now x.0.now) items
-before_in_loop book items s t u r x start yields is step ordered = search (rules, All-weaker, owner_cmp, IsBefore-from_less, earlier_in_loop)
+before_in_loop book items s t u r x start yields is step rising =
+    All-weaker (λ y. owner_cmp y.0.now x.0.now ≡ Less) (λ y. IsBefore y.0.now x.0.now) (λ y less. IsBefore-from_less y.0.now x.0.now less) items
+    (earlier_in_loop owner_cmp book.owners items s t u r x start yields is step (sorted_from_rising book.owners rising))
 
 -- what holds of each entry's owner holds of each owner with a list
-pub owner_in : (book : Book) (items : List Item) (P : Owner → Type 0) → map deref_pair items ≡ book.owners.entries → All (λ x. P x.0.now) items
+pub owner_in : (book : Book) (items : List Item) (P : Owner → Type 0) → map deref_pair items ≡ book.owners → All (λ x. P x.0.now) items
     → (other : Owner) (list : RangeList) → list_of book other ≡ Some list → P other
 unfolding list_of
 owner_in book items P whole all other list found =
-    let entry = found_in_loop (λ e. P e.0) book.owners.entries items whole all (is_same_owner other) list found in
+    let entry = found_in_loop (λ e. P e.0) book.owners items whole all (is_same_owner other) list found in
     subst P (sym (same_owner other entry.0 entry.1)) entry.2
 
 -- and no owner has a mode where no entry's has
-pub no_modes : (book : Book) (items : List Item) → map deref_pair items ≡ book.owners.entries
+pub no_modes : (book : Book) (items : List Item) → map deref_pair items ≡ book.owners
     → All (λ x. (byte : ℕ) → byte_modes_of book x.0.now byte ≡ None) items → (owner : Owner) (byte : ℕ) → byte_modes_of book owner byte ≡ None
 no_modes book items whole none owner byte = elim (list_of book owner) as (λ l. list_of book owner ≡ l → byte_modes_of book owner byte ≡ None) [
   | None ↦ λ is. ap (λ (modes : ℕ → Option Mode). modes byte) (byte_modes_of-list book owner None is)
@@ -205,7 +207,7 @@ pub list_in : (list : Option RangeList) (byte : ℕ) (wanted : Mode) → HeldCon
 list_in None byte wanted conflicts = absurd conflicts
 list_in (Some list) byte wanted conflicts = (list, refl)
 
-pub blocked_in : (book : Book) (items : List Item) (P : Owner → Type 0) → map deref_pair items ≡ book.owners.entries → All (λ x. P x.0.now) items
+pub blocked_in : (book : Book) (items : List Item) (P : Owner → Type 0) → map deref_pair items ≡ book.owners → All (λ x. P x.0.now) items
     → (owner other : Owner) (wanted : Mode) (byte : ℕ) → Blocks (byte_modes_of book) owner wanted byte other → P other
 unfolding byte_modes_of
 blocked_in book items P whole all owner other wanted byte b =
@@ -213,7 +215,7 @@ blocked_in book items P whole all owner other wanted byte b =
     owner_in book items P whole all other list.0 list.1
 
 -- where no entry blocks nothing does
-pub least_none : (book : Book) (items : List Item) (owner : Owner) (span : Span) (wanted : Mode) → map deref_pair items ≡ book.owners.entries
+pub least_none : (book : Book) (items : List Item) (owner : Owner) (span : Span) (wanted : Mode) → map deref_pair items ≡ book.owners
     → IsLeastSoFar (byte_modes_of book) owner span wanted items None → ¬ ByteConflict (byte_modes_of book) owner span wanted
 least_none book items owner span wanted whole never conflict =
     blocked_in book items (NeverBlocks (byte_modes_of book) owner span wanted) whole never owner conflict.other wanted conflict.byte conflict.blocks
@@ -221,7 +223,7 @@ least_none book items owner span wanted whole never conflict =
 
 -- the least of all entries is the first
 least_some : (book : Book) (items : List Item) (owner : Owner) (span : Span) (wanted : Mode) (byte : ℕ) (other : Owner)
-    → map deref_pair items ≡ book.owners.entries → IsLeast (byte_modes_of book) owner span wanted items byte other
+    → map deref_pair items ≡ book.owners → IsLeast (byte_modes_of book) owner span wanted items byte other
     → IsFirstBlocked (byte_modes_of book) owner span wanted byte other
 least_some book items owner span wanted byte other whole least = record {
   covered = least.covered;
@@ -236,24 +238,24 @@ least_some book items owner span wanted byte other whole least = record {
 
 -- what was found among all entries
 pub none_from_least : (book : Book) (items : List Item) (owner : Owner) (span : Span) (wanted : Mode) (found : Option (ℕ × Owner))
-    → map deref_pair items ≡ book.owners.entries → IsLeastSoFar (byte_modes_of book) owner span wanted items found
+    → map deref_pair items ≡ book.owners → IsLeastSoFar (byte_modes_of book) owner span wanted items found
     → IfNone found (¬ ByteConflict (byte_modes_of book) owner span wanted)
 none_from_least book items owner span wanted None whole least = least_none book items owner span wanted whole least
 none_from_least book items owner span wanted (Some hit) whole least = tt
 
 pub first_from_least : (book : Book) (items : List Item) (owner : Owner) (span : Span) (wanted : Mode) (found : Option (ℕ × Owner))
-    → map deref_pair items ≡ book.owners.entries → IsLeastSoFar (byte_modes_of book) owner span wanted items found
+    → map deref_pair items ≡ book.owners → IsLeastSoFar (byte_modes_of book) owner span wanted items found
     → IfSome found (λ hit. IsFirstBlocked (byte_modes_of book) owner span wanted hit.0 hit.1)
 first_from_least book items owner span wanted None whole least = tt
 first_from_least book items owner span wanted (Some hit) whole least = least_some book items owner span wanted hit.0 hit.1 whole least
 
 -- the least of the entries so far at the first byte of the range is the first, since those that are left come later
-pub first_at_start : (book : Book) (items : List Item) (s t u : List (Owner × RangeList)) (r : Option Item) (x : Item) → s ≡ book.owners.entries
-    → Yields (TakesFirst deref_pair) s items t → r ≡ Some x → TakesFirst deref_pair t r u → IsOrdered owner_cmp book.owners
+pub first_at_start : (book : Book) (items : List Item) (s t u : List (Owner × RangeList)) (r : Option Item) (x : Item) → s ≡ book.owners
+    → Yields (TakesFirst deref_pair) s items t → r ≡ Some x → TakesFirst deref_pair t r u → AreRising book.owners
     → (owner : Owner) (span : Span) (wanted : Mode) (byte : ℕ) → byte ≡ span.first
     → IsLeast (byte_modes_of book) owner span wanted (items ++ x ∷ []) byte x.0.now → IsFirstBlocked (byte_modes_of book) owner span wanted byte x.0.now
 unfolding byte_modes_of list_of
-first_at_start book items s t u r x start yields is step ordered owner span wanted byte at_start least = record {
+first_at_start book items s t u r x start yields is step rising owner span wanted byte at_start least = record {
   covered = least.covered;
   blocks = least.blocks;
   least_byte = λ before any from below. absurd (omega arith);
@@ -261,8 +263,8 @@ first_at_start book items s t u r x start yields is step ordered owner span want
       let P : Owner → Type 0 = λ o. IsBefore o x.0.now → ¬ Blocks (byte_modes_of book) owner wanted byte o in
       let later : All (λ e. P e.0) u =
       All-weaker (λ e. owner_cmp x.0.now e.0 ≡ Less) (λ e. P e.0) (λ e less before. absurd (IsBefore-asymmetric x.0.now e.0 (IsBefore-from_less x.0.now e.0 less) before)) u
-      (later_in_loop owner_cmp book.owners.entries items s t u r x start yields is step ordered) in
+      (later_in_loop owner_cmp book.owners items s t u r x start yields is step (sorted_from_rising book.owners rising)) in
       let list = list_in (list_of book any) byte wanted b.conflicts in
-      let entry = found_in_part (λ e. P e.0) book.owners.entries items s t u r x start yields is step least.least_owner later (is_same_owner any) list.0 list.1 in
+      let entry = found_in_part (λ e. P e.0) book.owners items s t u r x start yields is step least.least_owner later (is_same_owner any) list.0 list.1 in
       subst P (sym (same_owner any entry.0 entry.1)) entry.2 earlier b;
 }

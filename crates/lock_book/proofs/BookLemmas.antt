@@ -1,10 +1,10 @@
 -- What a change of one owner's list, or of one description's place, means to the whole book: for each call that sets, reserves or releases.
 use Rattle.std.proofs.lemmas.Grind.{common_steps}
 use Rattle.std.proofs.Common.{ℕ, ◌≡◌, ◌≢◌, ◌==◌, ◌∙◌, sym, ap, refl, subst, true, false, cond, Bool, arith, ◌≤◌, ◌+◌, Option, Some, None, Result, Ok, Err, inl, inr, List}
-use Rattle.std.specs.Prelude.{if◌then◌else◌, ◌||◌, is_some, OnOk, OnErr}
+use Rattle.std.specs.Prelude.{if◌then◌else◌, ◌||◌, is_some, OnOk, OnErr, OnSome}
 use Rattle.std.specs.Ordering.{nat_cmp}
 use Rattle.std.specs.Option.{option_copied, option_copied_mut}
-use Rattle.std.specs.BTreeMap.{BTreeMap, UpdatesBy, WritesThrough, get}
+use Rattle.std.specs.BTreeMap.{get}
 use Rattle.std.specs.Borrow.{Bor, MutBor}
 use Rattle.std.proofs.lemmas.Bool.Decides.{nat_tests}
 use Rattle.std.proofs.lemmas.Bool.{cases_Bool, eqb-true}
@@ -17,21 +17,22 @@ use Rattle.lock_book.specs.declared.Owner.{Owner}
 use Rattle.lock_book.specs.declared.book.Book.{Book}
 use Rattle.lock_book.specs.Owners.{is_same_owner}
 use Rattle.lock_book.specs.Books.{list_of, place_of, byte_modes_of, room_in, flock_modes_of, has_flock_place, SameBook, SameButRoom, SetsOwnerMode, ReleasesOwner, ClearsOwner, SetsFlock, ReservesFlock, ReleasesFlock}
-use Rattle.lock_book.specs.OwnerLists.{modes_in_list, room_in_list, EachList, IsIdle}
+use Rattle.lock_book.specs.OwnerLists.{modes_in_list, room_in_list, EachList, IsIdle, PutsFor}
 use Rattle.lock_book.specs.declared.book.holders.FlockHolders.{FlockHolders}
 use Rattle.lock_book.specs.Holders.{place_among, mode_in_place, PutsAmong}
-use Rattle.std.specs.Map.{lookup}
-use Rattle.lock_book.proofs.OwnerLemmas.{owner_cmp, is_eq-owner_cmp, lookup-owner_cmp, lookup-nat_cmp, same_owner, is_same_owner-self}
+use Rattle.std.specs.Map.{lookup, set_value}
+use Rattle.lock_book.proofs.OwnerLemmas.{lookup-nat_cmp, same_owner, is_same_owner-self}
+use Rattle.lock_book.proofs.PutLemmas.{PutsFor-set}
 
 -- what holds anyhow holds on a failure
 pub OnErr-anyhow : {T E P : Type 0} (r : Result T E) → P → OnErr r P
 OnErr-anyhow (Ok x) holds = tt
 OnErr-anyhow (Err e) holds = holds
 
--- what a book keeps is what its maps have
-pub list_of-get : (book : Book) (owner : Owner) → list_of book owner ≡ get owner_cmp book.owners owner
+-- what a book keeps is what a look-up finds
+pub list_of-lookup : (book : Book) (owner : Owner) → list_of book owner ≡ lookup (is_same_owner owner) book.owners
 unfolding list_of
-list_of-get book owner = sym (lookup-owner_cmp owner book.owners.entries)
+list_of-lookup book owner = refl
 
 pub place_of-get : (book : Book) (description : ℕ) → place_of book description ≡ get nat_cmp book.flocks.places description
 unfolding place_of
@@ -67,19 +68,20 @@ pub record PutsPlace (old new : Book) (description : ℕ) (place : Option (Optio
   pub places : (other : ℕ) → place_of new other ≡ (if description == other then place else place_of old other)
 
 -- these owners have this list in the place of the owner's in a book
-abbrev pub PutsAt : Book → BTreeMap Owner RangeList → Owner → Option RangeList → Type 0
-PutsAt old owners owner list = (other : Owner) → lookup (is_same_owner other) owners.entries ≡ (if is_same_owner owner other then list else list_of old other)
+abbrev pub PutsAt : Book → List (Owner × RangeList) → Owner → Option RangeList → Type 0
+PutsAt old owners owner list = (other : Owner) → lookup (is_same_owner other) owners ≡ (if is_same_owner owner other then list else list_of old other)
 
--- as an update of a book's owners makes them
-pub PutsAt-updates : (old : Book) (owners : BTreeMap Owner RangeList) (owner : Owner) (list : Option RangeList)
-    → UpdatesBy owner_cmp (owner_cmp owner) old.owners owners list → PutsAt old owners owner list
-PutsAt-updates old owners owner list updates other = grind (arith, common_steps, lookup-owner_cmp, owner_cmp, is_eq-owner_cmp, list_of-get)
+-- as a list that is put for the owner makes them
+pub PutsAt-puts : (old : Book) (owners : List (Owner × RangeList)) (owner : Owner) (list : Option RangeList) → PutsFor old.owners owners owner list
+    → PutsAt old owners owner list
+unfolding list_of
+PutsAt-puts old owners owner list puts other = puts other
 
--- also of the owners that are left where they lent nothing
-pub PutsAt-adds : (old : Book) (was owners : BTreeMap Owner RangeList) (owner : Owner) (list : Option RangeList) → was ≡ old.owners
-    → UpdatesBy owner_cmp (owner_cmp owner) was owners list → PutsAt old owners owner list
-PutsAt-adds old was owners owner list same updates =
-    PutsAt-updates old owners owner list (subst (λ (m : BTreeMap Owner RangeList). UpdatesBy owner_cmp (owner_cmp owner) m owners list) same updates)
+-- also of those that are left where they lent nothing
+pub PutsAt-adds : (old : Book) (was owners : List (Owner × RangeList)) (owner : Owner) (list : Option RangeList) → was ≡ old.owners
+    → PutsFor was owners owner list → PutsAt old owners owner list
+PutsAt-adds old was owners owner list same puts =
+    PutsAt-puts old owners owner list (subst (λ (lists : List (Owner × RangeList)). PutsFor lists owners owner list) same puts)
 
 -- in a book with these owners
 pub PutsList-puts : (old new : Book) (owner : Owner) (list : Option RangeList) → new.flocks ≡ old.flocks → PutsAt old new.owners owner list
@@ -89,20 +91,20 @@ PutsList-puts old new owner list same puts = grind (arith, common_steps)
 
 -- the list that a map lends is the owner's
 pub list_of-lent : (book : Book) (owner : Owner) (lent : Option (MutBor RangeList)) (list : MutBor RangeList)
-    → option_copied_mut lent ≡ get owner_cmp book.owners owner → lent ≡ Some list → list_of book owner ≡ Some list.now
-list_of-lent book owner lent list value is = list_of-get book owner ∙ sym value ∙ ap option_copied_mut is
+    → option_copied_mut lent ≡ lookup (is_same_owner owner) book.owners → lent ≡ Some list → list_of book owner ≡ Some list.now
+list_of-lent book owner lent list value is = list_of-lookup book owner ∙ sym value ∙ ap option_copied_mut is
 
-pub list_of-not_lent : (book : Book) (owner : Owner) (lent : Option (MutBor RangeList)) → option_copied_mut lent ≡ get owner_cmp book.owners owner
+pub list_of-not_lent : (book : Book) (owner : Owner) (lent : Option (MutBor RangeList)) → option_copied_mut lent ≡ lookup (is_same_owner owner) book.owners
     → lent ≡ None → list_of book owner ≡ None
-list_of-not_lent book owner lent value is = list_of-get book owner ∙ sym value ∙ ap option_copied_mut is
+list_of-not_lent book owner lent value is = list_of-lookup book owner ∙ sym value ∙ ap option_copied_mut is
 
 pub list_of-found : (book : Book) (owner : Owner) (found : Option (Bor RangeList)) (list : Bor RangeList)
-    → option_copied found ≡ get owner_cmp book.owners owner → found ≡ Some list → list_of book owner ≡ Some list.now
-list_of-found book owner found list value is = list_of-get book owner ∙ sym value ∙ ap option_copied is
+    → option_copied found ≡ lookup (is_same_owner owner) book.owners → found ≡ Some list → list_of book owner ≡ Some list.now
+list_of-found book owner found list value is = list_of-lookup book owner ∙ sym value ∙ ap option_copied is
 
-pub list_of-not_found : (book : Book) (owner : Owner) (found : Option (Bor RangeList)) → option_copied found ≡ get owner_cmp book.owners owner
+pub list_of-not_found : (book : Book) (owner : Owner) (found : Option (Bor RangeList)) → option_copied found ≡ lookup (is_same_owner owner) book.owners
     → found ≡ None → list_of book owner ≡ None
-list_of-not_found book owner found value is = list_of-get book owner ∙ sym value ∙ ap option_copied is
+list_of-not_found book owner found value is = list_of-lookup book owner ∙ sym value ∙ ap option_copied is
 
 -- the owner's modes are those of its list
 pub byte_modes_of-list : (book : Book) (owner : Owner) (list : Option RangeList) → list_of book owner ≡ list → byte_modes_of book owner ≡ modes_in_list list
@@ -110,33 +112,35 @@ unfolding byte_modes_of
 byte_modes_of-list book owner list is = ap modes_in_list is
 
 -- and a write through it puts a list in its place
-pub PutsAt-writes : (old : Book) (owners : BTreeMap Owner RangeList) (owner : Owner) (before list : RangeList)
-    → WritesThrough owner_cmp (owner_cmp owner) old.owners list owners → list_of old owner ≡ Some before → PutsAt old owners owner (Some list)
-PutsAt-writes old owners owner before list writes was = grind (arith, common_steps, owner_cmp, list_of-get, PutsAt-updates)
+pub PutsAt-sets : (old : Book) (owners : List (Owner × RangeList)) (owner : Owner) (before list : RangeList)
+    → owners ≡ set_value (is_same_owner owner) old.owners list → list_of old owner ≡ Some before → PutsAt old owners owner (Some list)
+PutsAt-sets old owners owner before list sets was =
+    PutsAt-puts old owners owner (Some list)
+    (subst (λ (lists : List (Owner × RangeList)). PutsFor old.owners lists owner (Some list)) (sym sets)
+    (PutsFor-set old.owners owner list (rw (sym (list_of-lookup old owner) ∙ was) refl)))
 
 -- so it is where the owners lent the list
-pub list_written : (book : Book) (owners : BTreeMap Owner RangeList) (owner : Owner) (lent : Option (MutBor RangeList)) (list : MutBor RangeList)
-    (after : RangeList) → option_copied_mut lent ≡ get owner_cmp book.owners owner → lent ≡ Some list
-    → WritesThrough owner_cmp (owner_cmp owner) book.owners after owners → (list_of book owner ≡ Some list.now) × PutsAt book owners owner (Some after)
-list_written book owners owner lent list after value is writes =
-    let was = list_of-lent book owner lent list value is in (was, PutsAt-writes book owners owner list.now after writes was)
+pub list_written : (book : Book) (owners : List (Owner × RangeList)) (owner : Owner) (lent : Option (MutBor RangeList)) (list : MutBor RangeList)
+    (after : RangeList) → option_copied_mut lent ≡ lookup (is_same_owner owner) book.owners → lent ≡ Some list
+    → OnSome lent (owners ≡ set_value (is_same_owner owner) book.owners after) → (list_of book owner ≡ Some list.now) × PutsAt book owners owner (Some after)
+list_written book owners owner lent list after value is sets =
+    let was = list_of-lent book owner lent list value is in (was, PutsAt-sets book owners owner list.now after (rw is at sets) was)
 
 -- which a removal takes away
 update_removed : (same : Bool) (list rest : Option RangeList) → cond same None (cond same list rest) ≡ cond same None rest
 update_removed true list rest = refl
 update_removed false list rest = refl
 
-pub PutsAt-removes : (old : Book) (owners removed : BTreeMap Owner RangeList) (owner : Owner) (list : Option RangeList)
-    → PutsAt old owners owner list → UpdatesBy owner_cmp (owner_cmp owner) owners removed None → PutsAt old removed owner None
-PutsAt-removes old owners removed owner list puts updates other =
-    sym (lookup-owner_cmp other removed.entries) ∙ updates.0 other
-    ∙ ap (λ b. cond b None (get owner_cmp owners other)) (is_eq-owner_cmp owner other)
-    ∙ ap (λ o. cond (is_same_owner owner other) None o) (lookup-owner_cmp other owners.entries ∙ puts other)
+pub PutsAt-removes : (old : Book) (owners removed : List (Owner × RangeList)) (owner : Owner) (list : Option RangeList)
+    → PutsAt old owners owner list → PutsFor owners removed owner None → PutsAt old removed owner None
+PutsAt-removes old owners removed owner list puts removes other =
+    removes other
+    ∙ ap (λ o. cond (is_same_owner owner other) None o) (puts other)
     ∙ update_removed (is_same_owner owner other) list (list_of old other)
 
 -- what holds of each list still does, where it holds of the one that was put
-pub EachList-puts : (P : RangeList → Type 0) (old : Book) (owners : BTreeMap Owner RangeList) (owner : Owner) (after : Option RangeList)
-    → EachList P old.owners.entries → PutsAt old owners owner after → ((list : RangeList) → after ≡ Some list → P list) → EachList P owners.entries
+pub EachList-puts : (P : RangeList → Type 0) (old : Book) (owners : List (Owner × RangeList)) (owner : Owner) (after : Option RangeList)
+    → EachList P old.owners → PutsAt old owners owner after → ((list : RangeList) → after ≡ Some list → P list) → EachList P owners
 unfolding list_of
 EachList-puts P old owners owner after each puts holds other list found = elim (cases_Bool (is_same_owner owner other)) [
   | inl same ↦
@@ -150,27 +154,27 @@ EachList-puts P old owners owner after each puts holds other list found = elim (
 same_list : (one other : RangeList) → Some one ≡ Some other → one ≡ other
 same_list one other e = cc
 
-pub EachList-list : (P : RangeList → Type 0) (old : Book) (owners : BTreeMap Owner RangeList) (owner : Owner) (list : RangeList)
-    → EachList P old.owners.entries → PutsAt old owners owner (Some list) → P list → EachList P owners.entries
+pub EachList-list : (P : RangeList → Type 0) (old : Book) (owners : List (Owner × RangeList)) (owner : Owner) (list : RangeList)
+    → EachList P old.owners → PutsAt old owners owner (Some list) → P list → EachList P owners
 EachList-list P old owners owner list each puts holds = EachList-puts P old owners owner (Some list) each puts (λ other e. subst P (same_list list other e) holds)
 
-pub EachList-removed : (P : RangeList → Type 0) (old : Book) (owners : BTreeMap Owner RangeList) (owner : Owner) → EachList P old.owners.entries
-    → PutsAt old owners owner None → EachList P owners.entries
+pub EachList-removed : (P : RangeList → Type 0) (old : Book) (owners : List (Owner × RangeList)) (owner : Owner) → EachList P old.owners
+    → PutsAt old owners owner None → EachList P owners
 EachList-removed P old owners owner each puts = EachList-puts P old owners owner None each puts (λ list e. absurd (let h : None ≡ Some list = e in cc))
 
 -- owners that lent nothing are the same
-pub EachList-left : (P : RangeList → Type 0) (was owners : BTreeMap Owner RangeList) → was ≡ owners → EachList P owners.entries → EachList P was.entries
-EachList-left P was owners same each = subst (λ (m : BTreeMap Owner RangeList). EachList P m.entries) (sym same) each
+pub EachList-left : (P : RangeList → Type 0) (was owners : List (Owner × RangeList)) → was ≡ owners → EachList P owners → EachList P was
+EachList-left P was owners same each = subst (λ (lists : List (Owner × RangeList)). EachList P lists) (sym same) each
 
 -- also where an insertion may have been refused
 pub EachList-insert : {T E : Type 0} (P : RangeList
-    → Type 0) (old : Book) (was owners : BTreeMap Owner RangeList) (owner : Owner) (list : RangeList) (r : Result T E)
-    → EachList P old.owners.entries → was ≡ old.owners → OnOk r (UpdatesBy owner_cmp (owner_cmp owner) was owners (Some list))
-    → OnErr r (owners.entries ≡ was.entries) → P list → EachList P owners.entries
-EachList-insert P old was owners owner list (Ok x) each same updates kept holds = EachList-list P old owners owner list each (PutsAt-adds old was owners owner (Some list) same updates) holds
-EachList-insert P old was owners owner list (Err e) each same updates kept holds =
-    let entries : owners.entries ≡ old.owners.entries = kept ∙ ap (λ (m : BTreeMap Owner RangeList). m.entries) same in
-    λ other there found. each other there (ap (λ (es : List (Owner × RangeList)). lookup (is_same_owner other) es) (sym entries) ∙ found)
+    → Type 0) (old : Book) (was owners : List (Owner × RangeList)) (owner : Owner) (list : RangeList) (r : Result T E)
+    → EachList P old.owners → was ≡ old.owners → OnOk r (PutsFor was owners owner (Some list))
+    → OnErr r (owners ≡ was) → P list → EachList P owners
+EachList-insert P old was owners owner list (Ok x) each same puts kept holds =
+    EachList-list P old owners owner list each (PutsAt-adds old was owners owner (Some list) same puts) holds
+EachList-insert P old was owners owner list (Err e) each same puts kept holds =
+    λ other there found. each other there (ap (λ (lists : List (Owner × RangeList)). lookup (is_same_owner other) lists) (sym (kept ∙ same)) ∙ found)
 
 -- a list of a book is in use, and so is one with no fewer modes and no less room
 pub still_in_use : (book : Book) (owner : Owner) (before list : RangeList) → list_of book owner ≡ Some before
@@ -221,6 +225,14 @@ room_in-list book owner list is = ap room_in_list is
 pub room_left : (old new : Book) (owner : Owner) (before after : Option RangeList) (used : ℕ) → PutsList old new owner after
     → list_of old owner ≡ before → room_in_list before ≤ room_in_list after + used → room_in old owner ≤ room_in new owner + used
 room_left old new owner before after used puts was room = grind (arith, common_steps, room_in-puts, room_in-list)
+
+pub room_kept : (old new : Book) (owner : Owner) (before list : RangeList) → PutsList old new owner (Some list) → list_of old owner ≡ Some before
+    → room_of before ≤ room_of list → room_in old owner ≤ room_in new owner
+room_kept old new owner before list puts was room = grind (arith, common_steps, room_in-puts, room_in-list)
+
+pub room_held : (old new : Book) (owner : Owner) (list : RangeList) (sets : ℕ) → PutsList old new owner (Some list) → sets ≤ room_of list
+    → sets ≤ room_in new owner
+room_held old new owner list sets puts room = rw (room_in-puts old new owner (Some list) puts) room
 
 -- a list put for the owner that has the mode on just the range sets it in the book
 pub SetsOwnerMode-puts : (old new : Book) (owner : Owner) (before after : Option RangeList) (span : Span) (mode : Option Mode)
@@ -275,10 +287,10 @@ ReleasesFlock-puts : (old new : Book) (description : ℕ) → PutsPlace old new 
 unfolding byte_modes_of room_in flock_modes_of has_flock_place
 ReleasesFlock-puts old new description puts = grind (arith, common_steps, cases_Bool)
 
--- what a map's removal leaves
-pub owner_released : (old new : Book) (owner : Owner) → new.flocks ≡ old.flocks → UpdatesBy owner_cmp (owner_cmp owner) old.owners new.owners None
+-- what a removal leaves
+pub owner_released : (old new : Book) (owner : Owner) → new.flocks ≡ old.flocks → PutsFor old.owners new.owners owner None
     → ReleasesOwner old new owner
-owner_released old new owner same updates = ReleasesOwner-puts _ _ _ (PutsList-puts old new owner None same (PutsAt-updates old new.owners owner None updates))
+owner_released old new owner same puts = ReleasesOwner-puts _ _ _ (PutsList-puts old new owner None same (PutsAt-puts old new.owners owner None puts))
 
 pub flock_released : (old new : Book) (description : ℕ) → new.owners ≡ old.owners
     → PutsAmong old.flocks.places.entries new.flocks.places.entries description None → ReleasesFlock old new description
@@ -298,8 +310,8 @@ ClearsOwner-nothing old new owner owners flocks none =
     ClearsOwner-puts old new owner None None
     (record {
       lists = λ other. elim (cases_Bool (is_same_owner owner other)) [
-        | inl same ↦ rw same (ap (λ (m : BTreeMap Owner RangeList). lookup (is_same_owner other) m.entries) owners ∙ ap (list_of old) (sym (same_owner owner other same)) ∙ none)
-        | inr apart ↦ rw apart (ap (λ (m : BTreeMap Owner RangeList). lookup (is_same_owner other) m.entries) owners)
+        | inl same ↦ rw same (ap (λ (lists : List (Owner × RangeList)). lookup (is_same_owner other) lists) owners ∙ ap (list_of old) (sym (same_owner owner other same)) ∙ none)
+        | inr apart ↦ rw apart (ap (λ (lists : List (Owner × RangeList)). lookup (is_same_owner other) lists) owners)
       ];
       places = λ description. ap (λ (f : FlockHolders). place_among f.places.entries description) flocks;
     }) none (λ byte. refl) refl

@@ -100,7 +100,7 @@ pub byte_conflict_or_not : ByteConflictIsDecided
 unfolding list_of byte_modes_of
 byte_conflict_or_not book owner span wanted =
     elim (key_or_none is_same_owner same_owner (BlocksIn (byte_modes_of book) owner span wanted) (blocks_in_or_not (byte_modes_of book) owner span wanted)
-    book.owners.entries) [
+    book.owners) [
       | inl some ↦ inl (record { byte = some.1.byte; covered = some.1.covered; other = some.0; blocks = some.1.blocks })
       | inr none ↦ inr (λ conflict.
           let list = list_in (list_of book conflict.other) conflict.byte wanted conflict.blocks.conflicts in

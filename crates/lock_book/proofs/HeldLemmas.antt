@@ -88,7 +88,7 @@ list_with None byte mode has = absurd (let h : None ≡ Some mode = has in cc)
 list_with (Some list) byte mode has = (list, refl)
 
 -- the locks of all entries are the byte locks
-pub all_byte_locks : (book : Book) (file : ℕ) (items : List Item) (locks : List Held) → map deref_pair items ≡ book.owners.entries
+pub all_byte_locks : (book : Book) (file : ℕ) (items : List Item) (locks : List Held) → map deref_pair items ≡ book.owners
     → AreLocksOf file (byte_modes_of book) items locks → AreByteLocks file (byte_modes_of book) locks
 unfolding byte_modes_of
 all_byte_locks book file items locks whole are = record {

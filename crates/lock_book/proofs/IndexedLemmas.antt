@@ -24,16 +24,15 @@ use Rattle.interval_index.specs.Tests.{has_key}
 use Rattle.lock_book.specs.declared.Owner.{Owner}
 use Rattle.lock_book.specs.declared.Owner.TheVariants.{Process, Description}
 use Rattle.lock_book.specs.Owners.{is_same_owner, IsBefore}
-use Rattle.lock_book.specs.OwnerLists.{modes_in_list}
+use Rattle.lock_book.specs.OwnerLists.{AreFound, modes_in_list}
 use Rattle.lock_book.specs.Conflicts.{Blocks, ByteConflict, ByteModes, IsFirstBlocked}
 use Rattle.lock_book.specs.declared.book.index.OwnersIndex.{OwnersIndex}
 use Rattle.lock_book.specs.Indexing.{AreIndexed, AreRunsWhere, IsRunOf, as_holder, holder_modes, is_listed, is_others, is_outside, modes_among, touches}
 use Rattle.std.specs.Iterator.{Yields}
 use Rattle.std.specs.Map.Iter.{TakesFirst, deref_pair}
-use Rattle.std.specs.BTreeMap.{BTreeMap, get}
 use Rattle.lock_book.proofs.BlockLemmas.{Item}
 use Rattle.lock_book.proofs.LoopLemmas.{found_in_loop, next_in_loop}
-use Rattle.lock_book.proofs.OwnerLemmas.{lookup-owner_cmp, owner_cmp, same_owner}
+use Rattle.lock_book.proofs.OwnerLemmas.{same_owner}
 use Rattle.lock_book.proofs.IndexLemmas.{AreRunsWhere-moves, AreRunsWhere-agrees}
 use Rattle.lock_book.proofs.LargestLemmas.{IsRun-apart, IsRun-same, list_run, same_run}
 use Rattle.lock_book.proofs.ListLemmas.{All-at_Any}
@@ -481,9 +480,9 @@ module _ (lists : List (Owner × RangeList)) where
       ])) are
 
 -- the next entry of a loop has its owner's modes
-pub modes_of_next : (owners : BTreeMap Owner RangeList) (items : List Item) (s t u : List (Owner × RangeList)) (r : Option Item) (x : Item) → s ≡ owners.entries
-    → Yields (TakesFirst deref_pair) s items t → r ≡ Some x → TakesFirst deref_pair t r u
-    → All (λ e. get owner_cmp owners e.0 ≡ Some e.1) owners.entries → (byte : ℕ) → modes_among owners.entries x.0.now byte ≡ modes_of x.1.now byte
+pub modes_of_next : (owners : List (Owner × RangeList)) (items : List Item) (s t u : List (Owner × RangeList)) (r : Option Item) (x : Item) → s ≡ owners
+    → Yields (TakesFirst deref_pair) s items t → r ≡ Some x → TakesFirst deref_pair t r u → AreFound owners
+    → (byte : ℕ) → modes_among owners x.0.now byte ≡ modes_of x.1.now byte
 modes_of_next owners items s t u r x start yields is step all byte =
-    ap (λ (l : Option RangeList). modes_in_list l byte) (sym (lookup-owner_cmp x.0.now owners.entries)
-    ∙ next_in_loop (λ e. get owner_cmp owners e.0 ≡ Some e.1) owners.entries items s t u r x start yields is step all)
+    ap (λ (l : Option RangeList). modes_in_list l byte)
+    (next_in_loop (λ e. lookup (is_same_owner e.0) owners ≡ Some e.1) owners items s t u r x start yields is step all)

@@ -12,6 +12,8 @@ pub mod LargestLemmas
 pub mod ListLemmas
 pub mod LoopLemmas
 pub mod OwnerLemmas
+pub mod OwnerListLemmas
+pub mod PutLemmas
 pub mod ReportLaws
 pub mod RunLemmas
 pub mod SomeChangesLaws

@@ -1,9 +1,12 @@
 -- The order and the equality that are derived on owners are those of the definition: for `Book::blocked`,
 -- `Book::first_hit` and `Book::process_blocks`.
-use Rattle.std.proofs.Common.{ℕ, ◌≡◌, ◌≢◌, ◌<◌, ◌==◌, ◌∙◌, sym, subst, refl, arith, Bool, true, false, List, [], ◌∷◌}
+use Rattle.std.proofs.Common.{ℕ, suc, ◌≡◌, ◌≢◌, ◌<◌, ◌==◌, ◌∙◌, sym, subst, refl, arith, Bool, true, false, List, [], ◌∷◌, All}
 use Rattle.std.specs.Ordering.{is_eq, nat_cmp}
 use Rattle.std.specs.BTreeMap.{is_at}
-use Rattle.std.specs.Map.{lookup}
+use Rattle.std.specs.List.{AllByRecursion, AllPairs}
+use Rattle.std.specs.List.Sorted.{IsStrictlySortedBy}
+use Rattle.std.specs.Map.{keys_of, lookup}
+use Rattle.std.proofs.lemmas.List.Elements.{All-head, All-tail}
 use Rattle.std.specs.declared.cmp.Ordering.{Ordering}
 use Rattle.std.specs.declared.cmp.Ordering.TheVariants.{Less}
 use Rattle.std.proofs.lemmas.Grind.{common_steps}
@@ -63,8 +66,29 @@ different_from_eq one other different e = grind (arith, common_steps, owner_eq-s
 pub less_from_nat : (a b : ℕ) → nat_cmp a b ≡ Less → a < b
 less_from_nat a b less = grind (arith, common_steps)
 
+less_from_lt : (a b : ℕ) → a < b → nat_cmp a b ≡ Less
+less_from_lt a b less = grind (arith, common_steps)
+
 pub IsBefore-from_less : (one other : Owner) → owner_cmp one other ≡ Less → IsBefore one other
 IsBefore-from_less one other h = grind (arith, common_steps, less_from_nat)
+
+less_from_IsBefore : (one other : Owner) → IsBefore one other → owner_cmp one other ≡ Less
+less_from_IsBefore one other h = grind (arith, common_steps, less_from_lt)
+
+less_than_each : {X : Type 0} (owner : Owner) (es : List (Owner × X)) → All (λ e. IsBefore owner e.0) es
+    → AllByRecursion (λ other. owner_cmp owner other ≡ Less) (keys_of es)
+less_than_each owner [] all = tt
+less_than_each owner (e ∷ es) all =
+    (less_from_IsBefore owner e.0 (All-head (λ f. IsBefore owner f.0) e es all), less_than_each owner es (All-tail (λ f. IsBefore owner f.0) e es all))
+
+-- so are owners that rise
+pub sorted_from_rising : {X : Type 0} (es : List (Owner × X)) → AllPairs (λ one other. IsBefore one.0 other.0) es → IsStrictlySortedBy owner_cmp (keys_of es)
+unfolding IsStrictlySortedBy
+sorted_from_rising [] rising = tt
+sorted_from_rising (e ∷ es) rising = (
+  less_than_each e.0 es (λ k d within. rising 0 (suc k) d (omega arith) (omega arith)),
+  sorted_from_rising es (λ i j d less within. rising (suc i) (suc j) d (omega arith) (omega arith)),
+)
 
 -- two owners can't each come before the other
 pub IsBefore-asymmetric : (one other : Owner) → IsBefore one other → IsBefore other one → ⊥

@@ -141,7 +141,7 @@ flock_sets-modes file (place ∷ places) description =
 pub stand_for_some : ListsStandForRuns → BooksStandForSome
 unfolding byte_modes_of flock_modes_of list_of place_of
 stand_for_some law book file =
-    let lists = book.owners.entries in
+    let lists = book.owners in
     let places = book.flocks.places.entries in (
       all_sets law file lists,
       flock_sets file places,

@@ -14,7 +14,7 @@ use Rattle.lock_book.specs.Holders.{place_among, mode_in_place}
 
 -- the list of modes that a book keeps for the owner
 unfoldable pub list_of : Book → Owner → Option RangeList
-list_of book owner = lookup (is_same_owner owner) book.owners.entries
+list_of book owner = lookup (is_same_owner owner) book.owners
 
 -- the byte locks that a book stands for
 unfoldable pub byte_modes_of : Book → ByteModes

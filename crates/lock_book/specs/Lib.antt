@@ -5,6 +5,8 @@ pub mod Indexing
 pub mod Holders
 pub mod Owners
 pub mod OwnerLists
+pub mod Kept
+pub mod Lending
 pub mod Reports
 pub mod OneReport
 pub mod Decided

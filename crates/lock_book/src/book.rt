@@ -8,14 +8,15 @@ mod conflicts;
 mod flocks;
 mod holders;
 mod index;
+mod lists;
 mod reports;
 
 use self::holders::FlockHolders;
 use self::index::OwnersIndex;
+pub use self::lists::Lists;
+use self::lists::OwnerLists;
 use crate::Owner;
-use range_core::RangeList;
 use std::alloc::Global;
-use std::collections::BTreeMap;
 
 /// The locks on one file: the byte locks of each owner, traditional and OFD alike, and the flock locks of each
 /// description. The two families never meet (this project's choice, as on Linux: fcntl_locking(2), flock(2)).
@@ -23,12 +24,12 @@ use std::collections::BTreeMap;
 /// It may hold room for further sets of an owner and a place for a description's flock lock, which then can't fail.
 #[derive(Drop)]
 pub struct Book {
-    owners: BTreeMap<Owner, RangeList>,
+    owners: OwnerLists,
     index: OwnersIndex,
     flocks: FlockHolders,
     alloc: Global,
-    ghost in_use: { AreInUse owners.entries },
-    ghost indexed: { AreIndexed index owners.entries } by { AreIndexed-prop index owners.entries },
+    ghost in_use: { AreInUse owners },
+    ghost indexed: { AreIndexed index owners } by { AreIndexed-prop index owners },
 }
 
 impl Book {
@@ -43,7 +44,7 @@ impl Book {
         ensures places { (description : ℕ) → has_flock_place result description ≡ false }
     {
         Book {
-            owners: BTreeMap::new(alloc),
+            owners: OwnerLists::new(),
             index: OwnersIndex::none(),
             flocks: FlockHolders::new(alloc),
             alloc,
@@ -70,7 +71,7 @@ impl Book {
     fn lists_are_empty(&self) -> bool
         ensures { IsTrue result ↔ ((owner : Owner) (byte : ℕ) → byte_modes_of self.now owner byte ≡ None) }
     {
-        for (_, list) in &self.owners {
+        for (_, list) in self.owners.iter() {
             if !list.runs().is_empty() {
                 return false;
             }

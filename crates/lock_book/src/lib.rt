@@ -6,7 +6,7 @@
 mod book;
 mod laws;
 
-pub use book::Book;
+pub use book::{Book, Lists};
 pub use laws::{
     books_stand_for_some, conflicts_are_decided, locks_have_one_file_report, locks_have_one_report,
 };

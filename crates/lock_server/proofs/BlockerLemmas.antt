@@ -2,7 +2,6 @@
 use Rattle.std.proofs.Common.{ℕ, ◌≡◌, ◌≢◌, ◌+◌, ◌<◌, ◌≤◌, ◌∙◌, ◌⊎◌, inl, inr, min, max, sym, ap, refl, subst, arith, suc, true, false, Option, Some, None, List, [], ◌∷◌, ◌++◌, Any, Contains, length, take, drop, map}
 use Rattle.std.specs.Prelude.{◌↔◌, IfNone, IfSome, IsTrue, is_some, slice_get}
 use Rattle.std.specs.Borrow.{Bor}
-use Rattle.std.specs.BTreeMap.{BTreeMap}
 use Rattle.std.specs.Map.{keys_of}
 use Rattle.std.specs.Map.Iter.{deref_pair}
 use Rattle.std.proofs.lemmas.Bool.{cases_eq, cases_lt}
@@ -325,8 +324,8 @@ no_hit F owner span wanted other modes (Some byte) is none same blocks = let h :
 no_hit F owner span wanted other modes None is none same blocks =
     none blocks.byte blocks.covered (subst (λ (held : Option Mode). HeldConflicts held wanted) (sym (same blocks.byte)) blocks.conflicts)
 
-pub listed_all : (file : LockFile) (owner : ℕ) (span : Span) (wanted : Mode) (lists : BTreeMap Owner RangeList) (entries : List (Bor Owner × Bor RangeList))
-    (old new : List ℕ) → HaveModes file.book lists → map deref_pair entries ≡ lists.entries
+pub listed_all : (file : LockFile) (owner : ℕ) (span : Span) (wanted : Mode) (lists : List (Owner × RangeList)) (entries : List (Bor Owner × Bor RangeList))
+    (old new : List ℕ) → HaveModes file.book lists → map deref_pair entries ≡ lists
     → AddsOwners old new (IsListedHolder (file_state file) owner span wanted entries) → AddsOwners old new (BlocksOn (file_state file) owner span wanted)
 unfolding file_state
 listed_all file owner span wanted lists entries old new have whole adds =

@@ -1,8 +1,8 @@
 -- What the loops of an export go over, and what they put of it.
-use Rattle.std.proofs.Common.{ℕ, ◌≡◌, ◌<◌, ◌≤◌, ◌+◌, ◌*◌, ◌^◌, ◌∙◌, min, take, drop, sym, ap, subst, refl, arith, inl, inr, Bool, true, false, Option, Some, None, List, [], ◌∷◌, ◌++◌, All, length, map, get_or}
+use Rattle.std.proofs.Common.{ℕ, suc, ◌≡◌, ◌<◌, ◌≤◌, ◌+◌, ◌*◌, ◌^◌, ◌∙◌, min, take, drop, sym, ap, subst, refl, arith, inl, inr, true, false, Option, Some, None, List, [], ◌∷◌, ◌++◌, All, length, map, get_or}
 use Rattle.std.proofs.lemmas.Grind.{common_steps, flat_map-append}
 use Rattle.std.specs.Prelude.{◌⊎◌, AllPairs, Any, Contains, IsTrue, is_some}
-use Rattle.std.specs.BTreeMap.{BTreeMap, IsOrdered, get, is_at}
+use Rattle.std.specs.BTreeMap.{IsOrdered, get}
 use Rattle.std.specs.Borrow.{Bor}
 use Rattle.std.specs.Global.{Box}
 use Rattle.std.specs.List.{flat_map}
@@ -10,14 +10,13 @@ use Rattle.std.specs.Map.{keys_of, lookup}
 use Rattle.std.specs.Map.Iter.{deref_pair}
 use Rattle.std.specs.Option.{option_map}
 use Rattle.std.specs.Ordering.{nat_cmp}
-use Rattle.std.specs.declared.cmp.Ordering.{Ordering}
-use Rattle.std.specs.declared.cmp.Ordering.TheVariants.{Less}
 use Rattle.std.proofs.lemmas.Bool.Decides.{nat_tests}
 use Rattle.std.proofs.lemmas.Bool.{cases_lt}
 use Rattle.std.proofs.lemmas.List.{append-nil, drop_at, get_or_default, get_or-map, length-append, length-map, length-take-le, take-append-drop, take_at}
 use Rattle.std.proofs.lemmas.List.Folds.{flat_map-map}
 use Rattle.std.proofs.lemmas.List.Quantifiers.{all_pairs_push}
-use Rattle.std.proofs.lemmas.List.Elements.{All-head, All-tail, All-weaker, Contains-append_left, Contains-push, Contains-push_cases}
+use Rattle.std.proofs.lemmas.List.Kept.{AllPairs-cons}
+use Rattle.std.proofs.lemmas.List.Elements.{All-head, All-map, All-tail, All-weaker, Contains-append_left, Contains-push, Contains-push_cases}
 use Rattle.std.proofs.lemmas.Map.Views.{Contains-keys_from_lookup}
 use Rattle.range_core.specs.declared.Mode.{Mode}
 use Rattle.range_core.specs.declared.Span.{Span}
@@ -25,12 +24,11 @@ use Rattle.range_core.specs.declared.list.RangeList.{RangeList}
 use Rattle.range_core.specs.Changes.{modes_of}
 use Rattle.range_core.specs.Ranges.{AreRuns, Covers, IsRun, Modes}
 use Rattle.lock_book.specs.declared.Owner.{Owner}
-use Rattle.lock_book.specs.declared.Owner.TheVariants.{Process, Description}
+use Rattle.lock_book.specs.declared.Owner.TheVariants.{Description}
 use Rattle.lock_book.specs.declared.book.Book.{Book}
 use Rattle.lock_book.specs.Books.{byte_modes_of}
-use Rattle.lock_book.specs.Owners.{is_same_owner}
-use Rattle.lock_book.specs.OwnerLists.{modes_in_list}
-use Rattle.lock_book.specs.contracts.OwnerOrd.TheImpl as order
+use Rattle.lock_book.specs.Owners.{IsBefore, is_same_owner}
+use Rattle.lock_book.specs.OwnerLists.{AreRising, modes_in_list}
 use Rattle.lock_server.specs.declared.FlockLock.{FlockLock}
 use Rattle.lock_server.specs.declared.Lock.{Lock}
 use Rattle.lock_server.specs.declared.Pending.{Pending}
@@ -54,10 +52,10 @@ use Rattle.lock_server.specs.TableView.{AreSwept, entry_of, table_state}
 use Rattle.lock_server.specs.WaitersView.{crossed_in, crossed_of, waiter_of}
 use Rattle.lock_server.specs.Words.{Puts, PutsSome, bytes_of, greatest}
 use Rattle.lock_server.proofs.ExportLaws.{entry_one, inventory_one}
-use Rattle.lock_server.proofs.JustLemmas.{All-at, Contains-cons, Contains-here, Contains-nil, Contains-there, IsPiece, just_along, just_joined, just_none, just_single}
+use Rattle.lock_server.proofs.JustLemmas.{All-at, AllPairs-nil, Contains-cons, Contains-here, Contains-nil, Contains-there, IsPiece, just_along, just_joined, just_none, just_single}
 use Rattle.lock_server.proofs.ListLemmas.{Any-nil, Any-here, Any-there, Any-cons}
 use Rattle.lock_server.proofs.StateLemmas.{SameFile-itself}
-use Rattle.lock_server.proofs.WalkLemmas.{Walked, key_there, sorted_pairs, walked_all, walked_just, walked_keys}
+use Rattle.lock_server.proofs.WalkLemmas.{Walked, key_there, walked_all, walked_just, walked_keys}
 use Rattle.lock_server.proofs.WordLemmas.{items_all, length-bytes_of, puts_append, puts_none}
 
 -- crossed owners
@@ -260,47 +258,35 @@ runs_are F owner modes runs same told =
           (inside.0, lock_of owner run, inside.1, inside.2, (refl, found.4.0, found.4.1));
     }
 
--- the order that is derived on owners
-abbrev pub owner_cmp : Owner → Owner → Ordering
-owner_cmp one other = (order.cmp-value).it one other
-
-description_less : (a b : ℕ) → owner_cmp (Description a) (Description b) ≡ Less → a < b
-description_less a b less = grind (arith, common_steps)
-
-owner_at : (one other : Owner) → is_at (owner_cmp one) other ≡ is_same_owner one other
-owner_at (Process p) (Process q) = grind (arith, common_steps, nat_tests)
-owner_at (Process p) (Description e) = refl
-owner_at (Description d) (Process q) = refl
-owner_at (Description d) (Description e) = grind (arith, common_steps, nat_tests)
-
-lookup_agree : {K X : Type 0} (p q : K → Bool) → ((k : K) → p k ≡ q k) → (es : List (K × X)) → lookup p es ≡ lookup q es
-lookup_agree p q agree [] = refl
-lookup_agree p q agree (e ∷ es) = rw (agree e.0, lookup_agree p q agree es)
+-- the owners of lists rise with them
+rising_owners : (lists : List (Owner × RangeList)) → AreRising lists → AllPairs IsBefore (keys_of lists)
+rising_owners [] rising = AllPairs-nil IsBefore
+rising_owners (one ∷ lists) rising =
+    AllPairs-cons IsBefore one.0 (keys_of lists)
+    (All-map (IsBefore one.0) (λ (other : Owner × RangeList). other.0) lists (λ k d within. rising 0 (suc k) d (omega arith) (omega arith)))
+    (rising_owners lists (λ i j d less within. rising (suc i) (suc j) d (omega arith) (omega arith)))
 
 same_owner : (one other : Owner) → is_same_owner one other ≡ true → one ≡ other
 same_owner one other h = grind (arith, common_steps, nat_tests)
 
 -- the lists of a book by owner have its modes
-abbrev pub HaveModes : Book → BTreeMap Owner RangeList → Type 0
-HaveModes book lists = (owner : Owner) (byte : ℕ) → modes_in_list (lookup (is_same_owner owner) lists.entries) byte ≡ byte_modes_of book owner byte
+abbrev pub HaveModes : Book → List (Owner × RangeList) → Type 0
+HaveModes book lists = (owner : Owner) (byte : ℕ) → modes_in_list (lookup (is_same_owner owner) lists) byte ≡ byte_modes_of book owner byte
 
-pub modes_there : (book : Book) (lists : BTreeMap Owner RangeList) (owner : Owner) (list : RangeList) → HaveModes book lists
-    → get owner_cmp lists owner ≡ Some list → (byte : ℕ) → modes_of list byte ≡ byte_modes_of book owner byte
-modes_there book lists owner list have there byte =
-    let found : lookup (is_same_owner owner) lists.entries ≡ Some list =
-    sym (lookup_agree (is_at (owner_cmp owner)) (is_same_owner owner) (owner_at owner) lists.entries) ∙ there in
-    ap (λ (o : Option RangeList). modes_in_list o byte) (sym found) ∙ have owner byte
+pub modes_there : (book : Book) (lists : List (Owner × RangeList)) (owner : Owner) (list : RangeList) → HaveModes book lists
+    → lookup (is_same_owner owner) lists ≡ Some list → (byte : ℕ) → modes_of list byte ≡ byte_modes_of book owner byte
+modes_there book lists owner list have there byte = ap (λ (o : Option RangeList). modes_in_list o byte) (sym there) ∙ have owner byte
 
-pub list_there : (book : Book) (lists : BTreeMap Owner RangeList) (owner : Owner) → HaveModes book lists → (byte : ℕ) (mode : Mode)
-    → byte_modes_of book owner byte ≡ Some mode → Contains (keys_of lists.entries) owner
+pub list_there : (book : Book) (lists : List (Owner × RangeList)) (owner : Owner) → HaveModes book lists → (byte : ℕ) (mode : Mode)
+    → byte_modes_of book owner byte ≡ Some mode → Contains (keys_of lists) owner
 list_there book lists owner have byte mode has =
-    there (lookup (is_same_owner owner) lists.entries) refl (have owner byte ∙ has)
+    there (lookup (is_same_owner owner) lists) refl (have owner byte ∙ has)
   where
-    there : (found : Option RangeList) → lookup (is_same_owner owner) lists.entries ≡ found → modes_in_list found byte ≡ Some mode
-        → Contains (keys_of lists.entries) owner
+    there : (found : Option RangeList) → lookup (is_same_owner owner) lists ≡ found → modes_in_list found byte ≡ Some mode
+        → Contains (keys_of lists) owner
     there None is held = absurd (let h : None ≡ Some mode = held in cc)
     there (Some list) is held =
-        Contains-keys_from_lookup {eq = is_same_owner} same_owner owner lists.entries (ap (λ (o : Option RangeList). is_some o) is)
+        Contains-keys_from_lookup {eq = is_same_owner} same_owner owner lists (ap (λ (o : Option RangeList). is_some o) is)
 
 -- the locks of one owner; a process has none
 pub record IsLockPiece (F : FileState) (locks : Owner × List Lock) : Type 0 where
@@ -323,8 +309,8 @@ pub owner_piece_of : (F : FileState) (owner : Owner) (number : ℕ) (locks : Lis
 owner_piece_of F owner number locks is are = subst (λ (o : Owner). IsLockPiece F (o, locks)) (sym is) (owner_piece F number locks are)
 
 -- the list of an owner has its modes on the file
-pub list_modes : (file : LockFile) (lists : BTreeMap Owner RangeList) (owner : Owner) (number : ℕ) (list : RangeList) → HaveModes file.book lists
-    → owner ≡ Description number → get owner_cmp lists owner ≡ Some list → (byte : ℕ) → modes_of list byte ≡ (file_state file).bytes number byte
+pub list_modes : (file : LockFile) (lists : List (Owner × RangeList)) (owner : Owner) (number : ℕ) (list : RangeList) → HaveModes file.book lists
+    → owner ≡ Description number → lookup (is_same_owner owner) lists ≡ Some list → (byte : ℕ) → modes_of list byte ≡ (file_state file).bytes number byte
 unfolding file_state
 list_modes file lists owner number list have is there byte =
     modes_there file.book lists owner list have there byte ∙ ap (λ (o : Owner). byte_modes_of file.book o byte) is
@@ -381,24 +367,24 @@ lock_joined F owner byte mode (piece ∷ pieces) each known has =
     ]
 
 -- a loop over the lists put just the byte locks
-pub all_locks : (file : LockFile) (lists : BTreeMap Owner RangeList) (entries : List (Bor Owner × Bor RangeList)) (spell : Lock → List ℕ) (old new : List ℕ)
-    (at next : ℕ) → HaveModes file.book lists → IsOrdered owner_cmp lists → map deref_pair entries ≡ lists.entries
+pub all_locks : (file : LockFile) (lists : List (Owner × RangeList)) (entries : List (Bor Owner × Bor RangeList)) (spell : Lock → List ℕ) (old new : List ℕ)
+    (at next : ℕ) → HaveModes file.book lists → AreRising lists → map deref_pair entries ≡ lists
     → Walked (IsLockPiece (file_state file)) spell entries old at new next
     → PutsSome (AreByteLocks (file_state file)) (flat_map spell) old at new next
 unfolding file_state
-all_locks file lists entries spell old new at next have ordered whole walked =
+all_locks file lists entries spell old new at next have rising whole walked =
     let F : FileState = file_state file in
-    let of_keys = walked_keys (IsLockPiece F) spell lists.entries entries old new at next walked whole in
+    let of_keys = walked_keys (IsLockPiece F) spell lists entries old new at next walked whole in
     let known : (owner byte : ℕ) (mode : Mode) → F.bytes owner byte ≡ Some mode → Contains (map (λ (p : Owner × List Lock). p.0) walked.pieces) (Description owner) =
     λ owner byte mode has. subst (λ (ks : List Owner). Contains ks (Description owner)) (sym of_keys)
     (list_there file.book lists (Description owner) have byte mode has) in
-    let order : AllPairs (λ a b. owner_cmp a b ≡ Less) (map (λ (p : Owner × List Lock). p.0) walked.pieces) =
-    subst (λ (ks : List Owner). AllPairs (λ a b. owner_cmp a b ≡ Less) ks) (sym of_keys) (sorted_pairs owner_cmp (keys_of lists.entries) ordered) in
+    let order : AllPairs IsBefore (map (λ (p : Owner × List Lock). p.0) walked.pieces) =
+    subst (λ (ks : List Owner). AllPairs IsBefore ks) (sym of_keys) (rising_owners lists rising) in
     record {
       what = flat_map (λ (p : Owner × List Lock). p.1) walked.pieces;
       is = record {
-        just = just_joined (λ (lock : Lock). Description lock.owner) lock_place (IsByteLock F) (λ a b. owner_cmp a b ≡ Less)
-            (λ x y first second less. inl (description_less x.owner y.owner less)) walked.pieces order
+        just = just_joined (λ (lock : Lock). Description lock.owner) lock_place (IsByteLock F) IsBefore
+            (λ x y first second less. inl less) walked.pieces order
             (All-weaker (IsLockPiece F) (IsPiece (λ (lock : Lock). Description lock.owner) lock_place (IsByteLock F)) (λ p is. is.piece) walked.pieces walked.each)
             (λ lock is. known lock.owner lock.span.first lock.mode (is.constant lock.span.first is.covered));
         all = λ owner byte mode has. lock_joined F owner byte mode walked.pieces walked.each (known owner byte mode has) has;

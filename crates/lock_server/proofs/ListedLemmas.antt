@@ -1,87 +1,101 @@
 -- The next owner in the lists of a book: for `LockFile::next_listed`.
-use Rattle.std.proofs.Common.{ℕ, ◌≡◌, ◌<◌, ◌≤◌, ◌∙◌, ap, sym, refl, arith, subst, true, false, Bool, List, [], ◌∷◌, Option, Some, None}
-use Rattle.std.specs.Prelude.{◌==◌, IfNone, IsSome, is_some}
-use Rattle.std.specs.BTreeMap.{BTreeMap, get, is_at}
-use Rattle.std.specs.BTreeMap.Range.{IsFromStart, IsInRange, IsLeBy}
+use Rattle.std.proofs.Common.{ℕ, suc, ◌≡◌, ◌<◌, ◌≤◌, ◌∙◌, ap, sym, refl, arith, subst, true, false, All, List, [], ◌∷◌, Option, Some, None, get_or}
+use Rattle.std.specs.Prelude.{IfNone}
 use Rattle.std.specs.Map.{lookup}
-use Rattle.std.specs.Ordering.{is_eq, is_gt, nat_cmp}
-use Rattle.std.specs.declared.cmp.Ordering.{Ordering}
-use Rattle.std.specs.declared.cmp.Ordering.TheVariants.{Less}
 use Rattle.std.specs.declared.ops.Bound.{Bound}
-use Rattle.std.specs.declared.ops.Bound.TheVariants.{Included, Excluded, Unbounded}
+use Rattle.std.specs.declared.ops.Bound.TheVariants.{Included, Excluded}
+use Rattle.std.proofs.lemmas.Bool.{cases_Bool}
+use Rattle.std.proofs.lemmas.Bool.Decides.{nat_tests}
 use Rattle.std.proofs.lemmas.Grind.{common_steps}
+use Rattle.std.proofs.lemmas.List.Elements.{All-cons, All-head, All-tail}
 use Rattle.range_core.specs.declared.list.RangeList.{RangeList}
 use Rattle.lock_book.specs.declared.Owner.{Owner}
-use Rattle.lock_book.specs.declared.Owner.TheVariants.{Description}
+use Rattle.lock_book.specs.declared.Owner.TheVariants.{Process, Description}
 use Rattle.lock_book.specs.Conflicts.{ByteModes}
-use Rattle.lock_book.specs.OwnerLists.{modes_in_list}
-use Rattle.lock_book.specs.Owners.{is_same_owner}
-use Rattle.lock_book.specs.contracts.OwnerOrd.TheImpl as order
+use Rattle.lock_book.specs.OwnerLists.{AreRising, modes_in_list}
+use Rattle.lock_book.specs.Owners.{IsBefore, is_from, is_same_owner}
 use Rattle.lock_server.specs.Listing.{number_behind}
 
--- the order that is derived on owners
-abbrev pub owner_cmp : Owner → Owner → Ordering
-owner_cmp one other = (order.cmp-value).it one other
-
-is_eq-nat_cmp : (a b : ℕ) → is_eq (nat_cmp a b) ≡ (a == b)
-is_eq-nat_cmp a b = grind (arith, common_steps)
-
-is_eq-owner_cmp : (one other : Owner) → is_eq (owner_cmp one other) ≡ is_same_owner one other
-is_eq-owner_cmp one other = grind (arith, common_steps, is_eq-nat_cmp)
-
-lookup_agree : {K X : Type 0} (p q : K → Bool) → ((k : K) → p k ≡ q k) → (es : List (K × X)) → lookup p es ≡ lookup q es
-lookup_agree p q agree [] = refl
-lookup_agree p q agree (e ∷ es) = rw (agree e.0, lookup_agree p q agree es)
-
--- from where on a map of owners is read, to find those beyond one
+-- from where on the owners are looked through, to find those beyond one
 abbrev pub bound_beyond : Option ℕ → Bound Owner
 bound_beyond None = Included (Description 0)
 bound_beyond (Some number) = Excluded (Description number)
 
-zero_first : (b : ℕ) → is_gt (nat_cmp 0 b) ≡ false
-zero_first b = grind (arith, common_steps)
+-- just these owners are beyond it
+from_bound : (above : Option ℕ) (number : ℕ) → number_behind above ≤ number → is_from (bound_beyond above) (Description number) ≡ true
+from_bound None number from = grind (arith, common_steps, nat_tests)
+from_bound (Some least) number from = grind (arith, common_steps, nat_tests)
 
-less_first : (a b : ℕ) → a < b → nat_cmp a b ≡ Less
-less_first a b less = grind (arith, common_steps)
+beyond_bound : (above : Option ℕ) (number : ℕ) → is_from (bound_beyond above) (Description number) ≡ true → number_behind above ≤ number
+beyond_bound None number from = omega arith
+beyond_bound (Some least) number from = grind (arith, common_steps, nat_tests)
 
-greater_not_first : (a b : ℕ) → b < a → is_gt (nat_cmp a b) ≡ true
-greater_not_first a b less = grind (arith, common_steps)
-
-from_bound : (above : Option ℕ) (number : ℕ) → number_behind above ≤ number → IsFromStart owner_cmp (bound_beyond above) (Description number)
-from_bound None number from = zero_first number
-from_bound (Some least) number from = less_first least number (omega arith)
+process_before : (above : Option ℕ) (process : ℕ) → is_from (bound_beyond above) (Process process) ≡ true → ⊥
+process_before None process from = let h : false ≡ true = from in cc
+process_before (Some least) process from = let h : false ≡ true = from in cc
 
 pub none_anyhow : {A P : Type 0} (found : Option A) → P → IfNone found P
 none_anyhow None holds = holds
 none_anyhow (Some x) holds = tt
 
--- lists that stand for these modes
-module _ (lists : BTreeMap Owner RangeList) (modes : ByteModes)
-    (stand : (owner : Owner) (byte : ℕ) → modes_in_list (lookup (is_same_owner owner) lists.entries) byte ≡ modes owner byte)
-    (above : Option ℕ) (first : Bound Owner) (is : first ≡ bound_beyond above) where
-  listed : (owner : Owner) (byte : ℕ) → modes_in_list (get owner_cmp lists owner) byte ≡ modes owner byte
-  listed owner byte =
-      ap (λ (l : Option RangeList). modes_in_list l byte) (lookup_agree (is_at (owner_cmp owner)) (is_same_owner owner) (is_eq-owner_cmp owner) lists.entries)
-      ∙ stand owner byte
+-- where no list is the owner's, none is found
+none_found : (owner : Owner) (lists : List (Owner × RangeList)) → All (λ one. is_same_owner owner one.0 ≡ false) lists
+    → lookup (is_same_owner owner) lists ≡ None
+none_found owner [] apart = refl
+none_found owner (one ∷ lists) apart =
+    rw (All-head (λ other. is_same_owner owner other.0 ≡ false) one lists apart)
+    (none_found owner lists (All-tail (λ other. is_same_owner owner other.0 ≡ false) one lists apart))
 
-  inside : (number : ℕ) → number_behind above ≤ number → IsInRange owner_cmp first Unbounded (Description number)
-  inside number from = (subst (λ (b : Bound Owner). IsFromStart owner_cmp b (Description number)) (sym is) (from_bound above number from), tt)
+-- a lesser owner is not one that comes behind another
+lesser_apart : (number found : ℕ) (other : Owner) → number < found → IsBefore (Description found) other → is_same_owner (Description number) other ≡ false
+lesser_apart number found other lesser behind = grind (arith, common_steps, cases_Bool, nat_tests)
 
-  -- where no list is found, there is no lock
-  pub none_listed : ((q : Owner) → IsInRange owner_cmp first Unbounded q → get owner_cmp lists q ≡ None)
-      → (number byte : ℕ) → number_behind above ≤ number → modes (Description number) byte ≡ None
-  none_listed none number byte from =
-      sym (listed (Description number) byte) ∙ ap (λ (l : Option RangeList). modes_in_list l byte) (none (Description number) (inside number from))
+lesser_itself : (number found : ℕ) → number < found → is_same_owner (Description number) (Description found) ≡ false
+lesser_itself number found lesser = grind (arith, common_steps, cases_Bool, nat_tests)
 
-  -- the first list that is found is that of the least owner
-  pub least_listed : (least : Owner) (found : ℕ) → least ≡ Description found
-      → ((q : Owner) → IsInRange owner_cmp first Unbounded q → IsSome (get owner_cmp lists q) → IsLeBy owner_cmp least q)
-      → (number byte : ℕ) → number_behind above ≤ number → number < found → modes (Description number) byte ≡ None
-  least_listed least found at below number byte from before = by_list (get owner_cmp lists (Description number)) refl
-    where
-      by_list : (list : Option RangeList) → get owner_cmp lists (Description number) ≡ list → modes (Description number) byte ≡ None
-      by_list None none = sym (listed (Description number) byte) ∙ ap (λ (l : Option RangeList). modes_in_list l byte) none
-      by_list (Some list) some =
-          absurd (let le = below (Description number) (inside number from) (ap is_some some) in
-          let greater = greater_not_first found number before in
-          let h : true ≡ false = sym greater ∙ subst (λ (o : Owner). is_gt (owner_cmp o (Description number)) ≡ false) at le in cc)
+-- nor is its list among those that rise from there
+none_lesser : (number found : ℕ) (one : Owner × RangeList) (rest : List (Owner × RangeList)) → one.0 ≡ Description found → number < found
+    → AreRising (one ∷ rest) → lookup (is_same_owner (Description number)) (one ∷ rest) ≡ None
+none_lesser number found one rest at lesser rising =
+    none_found (Description number) (one ∷ rest)
+    (All-cons (λ other. is_same_owner (Description number) other.0 ≡ false) one rest
+    (subst (λ (o : Owner). is_same_owner (Description number) o ≡ false) (sym at) (lesser_itself number found lesser))
+    (λ k d within.
+    let behind : IsBefore one.0 (get_or rest k d).0 = rising 0 (suc k) d (omega arith) (omega arith) in
+    lesser_apart number found (get_or rest k d).0 lesser (subst (λ (o : Owner). IsBefore o (get_or rest k d).0) at behind)))
+
+-- lists that stand for these modes from a bound on
+module _ (lists : List (Owner × RangeList)) (modes : ByteModes) (above : Option ℕ) (first : Bound Owner) (is : first ≡ bound_beyond above)
+    (stand : (owner : Owner) (byte : ℕ) → is_from first owner ≡ true → modes_in_list (lookup (is_same_owner owner) lists) byte ≡ modes owner byte) where
+  inside : (number : ℕ) → number_behind above ≤ number → is_from first (Description number) ≡ true
+  inside number from = subst (λ (b : Bound Owner). is_from b (Description number) ≡ true) (sym is) (from_bound above number from)
+
+  free : (number byte : ℕ) → number_behind above ≤ number → lookup (is_same_owner (Description number)) lists ≡ None → modes (Description number) byte ≡ None
+  free number byte from none = sym (stand (Description number) byte (inside number from)) ∙ ap (λ (l : Option RangeList). modes_in_list l byte) none
+
+  -- without a list there is no lock
+  pub none_listed : lists ≡ [] → (number byte : ℕ) → number_behind above ≤ number → modes (Description number) byte ≡ None
+  none_listed none number byte from = free number byte from (ap (λ (l : List (Owner × RangeList)). lookup (is_same_owner (Description number)) l) none)
+
+  -- the first list is that of the least owner
+  pub least_listed : (one : Owner × RangeList) (rest : List (Owner × RangeList)) → lists ≡ one ∷ rest → AreRising lists → (found : ℕ)
+      → one.0 ≡ Description found → (number byte : ℕ) → number_behind above ≤ number → number < found → modes (Description number) byte ≡ None
+  least_listed one rest split rising found at number byte from lesser =
+      free number byte from
+      (ap (λ (l : List (Owner × RangeList)). lookup (is_same_owner (Description number)) l) split
+      ∙ none_lesser number found one rest at lesser (subst (λ (l : List (Owner × RangeList)). AreRising l) split rising))
+
+-- the owner of the first list is from the bound on
+module _ (lists : List (Owner × RangeList)) (above : Option ℕ) (first : Bound Owner) (is : first ≡ bound_beyond above)
+    (from : All (λ one. is_from first one.0 ≡ true) lists) (one : Owner × RangeList) (rest : List (Owner × RangeList)) (split : lists ≡ one ∷ rest) where
+  within : is_from (bound_beyond above) one.0 ≡ true
+  within =
+      subst (λ (b : Bound Owner). is_from b one.0 ≡ true) is
+      (All-head (λ other. is_from first other.0 ≡ true) one rest
+      (subst (λ (l : List (Owner × RangeList)). All (λ other. is_from first other.0 ≡ true) l) split from))
+
+  pub first_beyond : (found : ℕ) → one.0 ≡ Description found → number_behind above ≤ found
+  first_beyond found at = beyond_bound above found (subst (λ (o : Owner). is_from (bound_beyond above) o ≡ true) at within)
+
+  pub first_no_process : (process : ℕ) → one.0 ≡ Process process → ⊥
+  first_no_process process at = process_before above process (subst (λ (o : Owner). is_from (bound_beyond above) o ≡ true) at within)

@@ -1,23 +1,17 @@
 -- The lists of a book's owners, gone over in order, and the set of the processes that block: for `Wait::blocking_by_lock`.
 use Rattle.std.proofs.lemmas.Grind.{common_steps}
-use Rattle.std.proofs.Common.{ℕ, ◌≡◌, ◌≢◌, ◌<◌, ◌≤◌, ◌==◌, ◌||◌, ◌↔◌, ◌∙◌, inl, inr, sym, ap, refl, subst, arith, Bool, true, Option, Some, None, List, [], ◌∷◌, ◌++◌, All, length, map}
+use Rattle.std.proofs.Common.{ℕ, suc, ◌≡◌, ◌≢◌, ◌<◌, ◌≤◌, ◌==◌, ◌||◌, ◌↔◌, ◌∙◌, inl, inr, sym, ap, refl, subst, arith, Bool, true, Option, Some, None, List, [], ◌∷◌, ◌++◌, All, length, map}
 use Rattle.std.specs.Prelude.{IsTrue, slice_get, slice_index_or}
 use Rattle.std.specs.Borrow.{Bor}
-use Rattle.std.specs.BTreeMap.{BTreeMap, IsOrdered, get, is_at}
 use Rattle.std.specs.Iterator.{Yields}
-use Rattle.std.specs.List.{AllByRecursion}
-use Rattle.std.specs.List.Sorted.{IsStrictlySortedBy}
-use Rattle.std.specs.Map.{keys_of, lookup}
+use Rattle.std.specs.List.{AllPairs}
+use Rattle.std.specs.Map.{lookup}
 use Rattle.std.specs.Map.Iter.{TakesFirst, deref_pair}
-use Rattle.std.specs.Ordering.{is_eq, nat_cmp}
-use Rattle.std.specs.declared.cmp.Ordering.{Ordering}
-use Rattle.std.specs.declared.cmp.Ordering.TheVariants.{Less}
 use Rattle.std.proofs.lemmas.Bool.{cases_eq, or_right}
 use Rattle.std.proofs.lemmas.Bool.Decides.{nat_tests}
-use Rattle.std.proofs.lemmas.List.Elements.{All-nil, All-cons, All-append, All-get_or, All-map, All-push, All-weaker}
+use Rattle.std.proofs.lemmas.List.Elements.{All-cons, All-append, All-get_or, All-map, All-push, All-weaker}
 use Rattle.std.proofs.lemmas.Map.Entries.{place_from_lookup}
 use Rattle.std.proofs.lemmas.Map.Iter.{rest_so_far, rest_more}
-use Rattle.std.proofs.lemmas.Map.Keys.{sorted_head, sorted_tail}
 use Rattle.std.proofs.lemmas.Map.Views.{All-turn}
 use Rattle.std.proofs.lemmas.Option.{get_or_from_slice_get, slice_get-get_or, slice_get_within}
 use Rattle.range_core.specs.declared.Mode.{Mode}
@@ -28,40 +22,23 @@ use Rattle.range_core.specs.Ranges.{AreRuns, HeldConflicts, Modes}
 use Rattle.lock_book.specs.declared.Owner.{Owner}
 use Rattle.lock_book.specs.declared.Owner.TheVariants.{Process, Description}
 use Rattle.lock_book.specs.declared.book.Book.{Book}
-use Rattle.lock_book.specs.contracts.OwnerOrd.TheImpl as order
 use Rattle.lock_book.specs.Books.{byte_modes_of}
 use Rattle.lock_book.specs.Conflicts.{ByteModes, ProcessBlocks}
-use Rattle.lock_book.specs.OwnerLists.{modes_in_list}
-use Rattle.lock_book.specs.Owners.{is_same_owner}
+use Rattle.lock_book.specs.OwnerLists.{AreFound, AreRising, modes_in_list}
+use Rattle.lock_book.specs.Owners.{IsBefore, is_same_owner}
 use Rattle.wait_core.specs.declared.processes.ProcessSet.{ProcessSet}
 use Rattle.wait_core.specs.declared.processes.TheConstants.{PROCESSES}
 use Rattle.wait_core.specs.Locks.{byte_modes_at, locks_of}
 use Rattle.wait_core.specs.Processes.{is_member}
 use Rattle.wait_core.proofs.BlockingLemmas.{inserted_same, inserted_other}
 
--- the order that is derived on owners
-abbrev pub owner_cmp : Owner → Owner → Ordering
-owner_cmp one other = (order.cmp-value).it one other
-
-is_eq-nat_cmp : (a b : ℕ) → is_eq (nat_cmp a b) ≡ (a == b)
-is_eq-nat_cmp a b = grind (arith, common_steps)
-
--- its test for equality is the definition's
-is_eq-owner_cmp : (one other : Owner) → is_eq (owner_cmp one other) ≡ is_same_owner one other
-is_eq-owner_cmp one other = grind (arith, common_steps, is_eq-nat_cmp)
-
 -- owners that the test takes for one are one
 same_owner : (one other : Owner) → is_same_owner one other ≡ true → one ≡ other
 same_owner one other h = grind (arith, common_steps, nat_tests)
 
 -- no process comes after a description
-description_last : (one other : Owner) (description process : ℕ) → one ≡ Description description → owner_cmp one other ≡ Less → other ≢ Process process
+description_last : (one other : Owner) (description process : ℕ) → one ≡ Description description → IsBefore one other → other ≢ Process process
 description_last one other description process h h2 h3 = grind (arith, common_steps)
-
--- two tests that agree find the same entry
-lookup_agree : {K X : Type 0} (p q : K → Bool) → ((k : K) → p k ≡ q k) → (es : List (K × X)) → lookup p es ≡ lookup q es
-lookup_agree p q agree [] = refl
-lookup_agree p q agree (e ∷ es) = rw (agree e.0, lookup_agree p q agree es)
 
 -- what holds of each entry holds of the one that a look-up finds
 found_among : {K X : Type 0} (P : K × X → Type 0) (entries : List (K × X)) → All P entries → (test : K → Bool) (v : X) → lookup test entries ≡ Some v
@@ -75,15 +52,10 @@ found_among {K} {X} P entries each test v found =
     )
 
 -- in order, an entry comes before those behind it
-less_than_all : {K X : Type 0} (R : K → K → Ordering) (k : K) (rest : List (K × X)) → AllByRecursion (λ y. R k y ≡ Less) (keys_of rest)
-    → All (λ e. R k e.0 ≡ Less) rest
-less_than_all R k [] all = All-nil (λ e. R k e.0 ≡ Less)
-less_than_all R k (e ∷ rest) all = All-cons (λ e. R k e.0 ≡ Less) e rest all.0 (less_than_all R k rest all.1)
-
-less_than_rest : {K X : Type 0} (R : K → K → Ordering) (before : List (K × X)) (x : K × X) (rest : List (K × X))
-    → IsStrictlySortedBy R (keys_of (before ++ x ∷ rest)) → All (λ e. R x.0 e.0 ≡ Less) rest
-less_than_rest R [] x rest sorted = less_than_all R x.0 rest (sorted_head R _ _ sorted)
-less_than_rest R (y ∷ before) x rest sorted = less_than_rest R before x rest (sorted_tail R _ _ sorted)
+before_rest : {E : Type 0} (R : E → E → Type 0) (before : List E) (x : E) (rest : List E) → AllPairs R (before ++ x ∷ rest) → All (R x) rest
+before_rest R [] x rest rising = λ k d within. rising 0 (suc k) d (omega arith) (omega arith)
+before_rest R (y ∷ before) x rest rising =
+    before_rest R before x rest (λ i j d less within. rising (suc i) (suc j) d (omega arith) (omega arith))
 
 -- an owner's list, as a loop over the lists gives it
 abbrev pub Item : Type 0
@@ -102,14 +74,12 @@ lists_at books i file book lists within is at are owner byte =
     are owner byte ∙ ap (λ (b : Option Book). byte_modes_at b owner byte) there
 
 -- the next list of a loop has the modes of its process
-pub modes_in_loop : (lists : BTreeMap Owner RangeList) (modes : ByteModes) → AreLists lists.entries modes → (items : List Item)
-    (s t u : List (Owner × RangeList)) (r : Option Item) (x : Item) → s ≡ lists.entries → Yields (TakesFirst deref_pair) s items t → r ≡ Some x
-    → TakesFirst deref_pair t r u → All (λ e. get owner_cmp lists e.0 ≡ Some e.1) lists.entries → (k : ℕ) → x.0.now ≡ Process k → (byte : ℕ)
+pub modes_in_loop : (lists : List (Owner × RangeList)) (modes : ByteModes) → AreLists lists modes → (items : List Item)
+    (s t u : List (Owner × RangeList)) (r : Option Item) (x : Item) → s ≡ lists → Yields (TakesFirst deref_pair) s items t → r ≡ Some x
+    → TakesFirst deref_pair t r u → AreFound lists → (k : ℕ) → x.0.now ≡ Process k → (byte : ℕ)
     → modes_of x.1.now byte ≡ modes (Process k) byte
 modes_in_loop lists modes are items s t u r x start yields is step each k at byte =
-    let found = All-turn deref_pair (λ e. get owner_cmp lists e.0 ≡ Some e.1) lists.entries items s t u r x each start yields is step in
-    let here : lookup (is_same_owner x.0.now) lists.entries ≡ Some x.1.now =
-    sym (lookup_agree (is_at (owner_cmp x.0.now)) (is_same_owner x.0.now) (is_eq-owner_cmp x.0.now) lists.entries) ∙ found in
+    let here = All-turn deref_pair (λ e. lookup (is_same_owner e.0) lists ≡ Some e.1) lists items s t u r x each start yields is step in
     sym (ap (λ (l : Option RangeList). modes_in_list l byte) here) ∙ are x.0.now byte ∙ ap (λ (o : Owner). modes o byte) at
 
 none_of : (held : Option Mode) → ((mode : Mode) → held ≡ Some mode → ⊥) → held ≡ None
@@ -189,21 +159,21 @@ module _ (modes : ByteModes) (owner : Owner) (span : Span) (wanted : Mode) where
       (subst (λ (es : List (Owner × RangeList)). All (λ e. IsToldIfBlocking set e.0) es) whole (All-map (λ e. IsToldIfBlocking set e.0) deref_pair items all))
 
   -- and at the first description, since all processes come before it
-  pub told_at_description : (lists : BTreeMap Owner RangeList) → AreLists lists.entries modes → (set : ProcessSet) (items : List Item)
-      (s t u : List (Owner × RangeList)) (r : Option Item) (x : Item) → s ≡ lists.entries → Yields (TakesFirst deref_pair) s items t → r ≡ Some x
-      → TakesFirst deref_pair t r u → IsOrdered owner_cmp lists → (description : ℕ) → x.0.now ≡ Description description → OnlyBlocking set
+  pub told_at_description : (lists : List (Owner × RangeList)) → AreLists lists modes → (set : ProcessSet) (items : List Item)
+      (s t u : List (Owner × RangeList)) (r : Option Item) (x : Item) → s ≡ lists → Yields (TakesFirst deref_pair) s items t → r ≡ Some x
+      → TakesFirst deref_pair t r u → AreRising lists → (description : ℕ) → x.0.now ≡ Description description → OnlyBlocking set
       → All (λ y. IsToldIfBlocking set y.0.now) items → (q : ℕ) → 1 ≤ q → q ≤ PROCESSES
       → IsTrue (is_member set q) ↔ ProcessBlocks modes q owner span wanted
-  told_at_description lists are set items s t u r x start yields is step ordered description at only all =
+  told_at_description lists are set items s t u r x start yields is step rising description at only all =
       let P : Owner × RangeList → Type 0 = λ e. IsToldIfBlocking set e.0 in
-      let split : lists.entries ≡ map deref_pair items ++ deref_pair x ∷ u =
+      let split : lists ≡ map deref_pair items ++ deref_pair x ∷ u =
       sym start ∙ rest_so_far deref_pair items s t yields
       ∙ ap (λ (l : List (Owner × RangeList)). map deref_pair items ++ l) (rest_more deref_pair t u r x is step) in
-      let sorted = subst (λ (l : List (Owner × RangeList)). IsStrictlySortedBy owner_cmp (keys_of l)) split ordered in
+      let rise = subst (λ (l : List (Owner × RangeList)). AreRising l) split rising in
       let later : All P u =
-      All-weaker (λ e. owner_cmp x.0.now e.0 ≡ Less) P (λ e less q one few is_q conflict. absurd (description_last x.0.now e.0 description q at less is_q)) u
-      (less_than_rest owner_cmp (map deref_pair items) (deref_pair x) u sorted) in
+      All-weaker (λ e. IsBefore x.0.now e.0) P (λ e before q one few is_q conflict. absurd (description_last x.0.now e.0 description q at before is_q)) u
+      (before_rest (λ one other. IsBefore one.0 other.0) (map deref_pair items) (deref_pair x) u rise) in
       let here : P (deref_pair x) = λ q one few is_q conflict. absurd (let no : Description description ≡ Process q = sym at ∙ is_q in cc) in
-      told_of_all lists.entries are set only
+      told_of_all lists are set only
       (subst (λ (l : List (Owner × RangeList)). All P l) (sym split)
       (All-append P (map deref_pair items) (deref_pair x ∷ u) (All-map P deref_pair items all) (All-cons P (deref_pair x) u here later)))

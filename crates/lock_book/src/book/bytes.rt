@@ -21,7 +21,7 @@ impl Book {
         ensures err { OnErr result (SameBook self.old self.new) }
     {
         self.index.prepare_set(self.alloc, &self.owners, mode);
-        match self.owners.get_mut(&owner) {
+        match self.owners.get_mut(owner) {
             Some(list) => {
                 self.index.take_out(owner, list, span);
                 if let Err(refused) = list.set(span, mode) {
@@ -31,7 +31,7 @@ impl Book {
                 }
                 self.index.put_in(owner, list, span);
                 if is_idle(list) {
-                    self.owners.remove(&owner);
+                    self.owners.remove(owner);
                 }
                 Ok(())
             }
@@ -42,8 +42,8 @@ impl Book {
                 }
                 let mut added = RangeList::new(self.alloc);
                 added.set(span, mode)?;
-                self.owners.insert(owner, added)?;
-                let list = self.owners.get(&owner).unwrap();
+                self.owners.add(self.alloc, owner, added)?;
+                let list = self.owners.get(owner).unwrap();
                 self.index.put_in(owner, list, span);
                 Ok(())
             }
@@ -61,7 +61,7 @@ impl Book {
         ensures err { OnErr result (SameBook self.old self.new) }
     {
         self.index.prepare(self.alloc, &self.owners);
-        match self.owners.get_mut(&owner) {
+        match self.owners.get_mut(owner) {
             Some(list) => list.reserve(sets),
             None => {
                 // Room for no set is there without a list.
@@ -70,7 +70,7 @@ impl Book {
                 }
                 let mut list = RangeList::new(self.alloc);
                 list.reserve(sets)?;
-                self.owners.insert(owner, list)?;
+                self.owners.add(self.alloc, owner, list)?;
                 Ok(())
             }
         }
@@ -80,7 +80,7 @@ impl Book {
     pub fn room(&self, owner: Owner) -> usize
         ensures { result ≡ room_in self.now owner }
     {
-        match self.owners.get(&owner) {
+        match self.owners.get(owner) {
             Some(list) => list.room(),
             None => 0,
         }
@@ -94,12 +94,12 @@ impl Book {
         ensures sets { SetsOwnerMode self.old self.new owner span mode }
         ensures room { room_in self.old owner ≤ room_in self.new owner + 1 }
     {
-        let list = self.owners.get_mut(&owner).unwrap();
+        let list = self.owners.get_mut(owner).unwrap();
         self.index.take_out(owner, list, span);
         list.set_reserved(span, mode);
         self.index.put_in(owner, list, span);
         if is_idle(list) {
-            self.owners.remove(&owner);
+            self.owners.remove(owner);
         }
     }
 
@@ -109,7 +109,7 @@ impl Book {
     pub fn release_owner(&mut self, owner: Owner)
         ensures { ReleasesOwner self.old self.new owner }
     {
-        let Some(list) = self.owners.remove(&owner) else {
+        let Some(list) = self.owners.remove(owner) else {
             return;
         };
         self.index.take_all(owner, &list);
@@ -120,12 +120,12 @@ impl Book {
     pub fn clear_owner(&mut self, owner: Owner)
         ensures { ClearsOwner self.old self.new owner }
     {
-        match self.owners.get_mut(&owner) {
+        match self.owners.get_mut(owner) {
             Some(list) => {
                 self.index.take_all(owner, list);
                 list.clear();
                 if is_idle(list) {
-                    self.owners.remove(&owner);
+                    self.owners.remove(owner);
                 }
             }
             None => {}

@@ -1,19 +1,19 @@
 //! Who blocks a lock.
-ghost use Rattle.std.specs.Prelude.{ℕ, ◌≡◌, ◌<◌, ◌↔◌, nat_lt, None, IfSome, IfNone, IsTrue, MatchOption};
+ghost use Rattle.std.specs.Prelude.{ℕ, ◌≡◌, ◌<◌, ◌↔◌, nat_lt, None, IfSome, IfNone, IsTrue, MatchOption, All};
 ghost use Rattle.std.specs.Map.{lookup};
 ghost use Rattle.std.specs.Option.{option_copied};
 ghost use Rattle.range_core.specs.Ranges.{IsByteRange};
 ghost use Rattle.range_core.specs.Changes.{modes_of};
 ghost use Rattle.lock_book.specs.Conflicts.{ByteConflict, IsFirstBlocked, IsFirstBlocker, ProcessBlocks};
-ghost use Rattle.lock_book.specs.Owners.{is_same_owner};
-ghost use Rattle.lock_book.specs.OwnerLists.{modes_in_list, room_in_list};
+ghost use Rattle.lock_book.specs.Owners.{is_from, is_same_owner};
+ghost use Rattle.lock_book.specs.OwnerLists.{AreFound, AreRising, modes_in_list, room_in_list};
 ghost use Rattle.lock_book.specs.Books.{byte_modes_of, room_in};
 
-use super::Book;
 use super::index::{holder, owner_of};
+use super::{Book, Lists};
 use crate::{Blocker, Owner};
 use range_core::{Mode, RangeList, Span};
-use std::collections::BTreeMap;
+use std::ops::Bound;
 
 impl Book {
     /// Whether some other owner has a lock on some byte of the span that conflicts with one of this mode (POSIX.1-2017
@@ -33,7 +33,7 @@ impl Book {
         requires { IsByteRange span }
         ensures { IsTrue result ↔ ByteConflict (byte_modes_of self.now) owner span mode }
     {
-        for (other, list) in &self.owners {
+        for (other, list) in self.owners.iter() {
             if has_no_lock(list) {
                 continue;
             }
@@ -48,17 +48,30 @@ impl Book {
     pub fn list(&self, owner: Owner) -> Option<&RangeList>
         ensures { (byte : ℕ) → modes_in_list (option_copied result) byte ≡ byte_modes_of self.now owner byte }
     {
-        self.owners.get(&owner)
+        self.owners.get(owner)
     }
 
     /// The lists of all owners that have locks or hold room, by owner: the processes come before the descriptions. It takes
     /// no memory.
-    pub fn lists(&self) -> &BTreeMap<Owner, RangeList>
-        ensures modes { (owner : Owner) (byte : ℕ)
-            → modes_in_list (lookup (is_same_owner owner) result.now.entries) byte ≡ byte_modes_of self.now owner byte }
-        ensures rooms { (owner : Owner) → room_in_list (lookup (is_same_owner owner) result.now.entries) ≡ room_in self.now owner }
+    pub fn lists(&self) -> Lists<'_>
+        ensures modes { (owner : Owner) (byte : ℕ) → modes_in_list (lookup (is_same_owner owner) result) byte ≡ byte_modes_of self.now owner byte }
+        ensures rooms { (owner : Owner) → room_in_list (lookup (is_same_owner owner) result) ≡ room_in self.now owner }
+        ensures rising { AreRising result }
+        ensures found { AreFound result }
     {
-        &self.owners
+        self.owners.iter()
+    }
+
+    /// Those of the owners from this bound on. It takes no memory.
+    pub fn lists_from(&self, from: Bound<Owner>) -> Lists<'_>
+        ensures modes { (owner : Owner) (byte : ℕ) → IsTrue (is_from from owner)
+            → modes_in_list (lookup (is_same_owner owner) result) byte ≡ byte_modes_of self.now owner byte }
+        ensures rooms { (owner : Owner) → IsTrue (is_from from owner) → room_in_list (lookup (is_same_owner owner) result) ≡ room_in self.now owner }
+        ensures from { All (λ one. IsTrue (is_from from one.0)) result }
+        ensures rising { AreRising result }
+        ensures found { AreFound result }
+    {
+        self.owners.iter_from(from)
     }
 
     /// Whether a traditional lock of the process, if that isn't the owner, conflicts on some byte of the span
@@ -68,7 +81,7 @@ impl Book {
         ensures { IsTrue result ↔ ProcessBlocks (byte_modes_of self.now) process owner span mode }
     {
         let other = Owner::Process(process);
-        match self.owners.get(&other) {
+        match self.owners.get(other) {
             Some(list) => other != owner && list.first_hit(span, mode).is_some(),
             None => false,
         }
@@ -84,7 +97,7 @@ impl Book {
         ensures none { IfNone result (¬ ByteConflict (byte_modes_of self.now) owner span mode) }
     {
         let (byte, other) = self.first_hit(owner, span, mode)?;
-        let (held, run) = self.owners.get(&other)?.run_at(byte)?;
+        let (held, run) = self.owners.get(other)?.run_at(byte)?;
         Some(Blocker {
             owner: other,
             mode: held,
@@ -115,7 +128,7 @@ impl Book {
         ensures none { IfNone result (¬ ByteConflict (byte_modes_of self.now) owner span mode) }
     {
         let mut first: Option<(u64, Owner)> = None;
-        for (other, list) in &self.owners {
+        for (other, list) in self.owners.iter() {
             if has_no_lock(list) || *other == owner {
                 continue;
             }

@@ -12,11 +12,11 @@ ghost use Rattle.lock_book.specs.declared.Owner.{Owner};
 ghost use Rattle.lock_book.specs.Conflicts.{ByteModes};
 ghost use Rattle.lock_book.specs.Indexing.{AreIndexed, AreRunsWhere, AreTouched, IsKeptAs, IsKeptOutside, IsKeptWithout, as_holder, holder_modes, is_listed, modes_among, touches};
 
+use super::lists::OwnerLists;
 use crate::Owner;
 use interval_index::{Holder, Run, RunIndex};
 use range_core::{Mode, RangeList, Span, lists_stand_for_runs};
 use std::alloc::Global;
-use std::collections::BTreeMap;
 
 /// Beyond so many owners a file has an index. It goes where no more are left, with few runs.
 const FEW_OWNERS: usize = 8;
@@ -56,9 +56,9 @@ impl OwnersIndex {
 
     /// Readies the index for one more set: makes it where there are many owners and none, drops it where few are left with few
     /// runs, and holds room.
-    pub fn prepare(&mut self, alloc: Global, owners: &BTreeMap<Owner, RangeList>)
-        requires { AreIndexed self.old owners.now.entries }
-        ensures { AreIndexed self.new owners.now.entries }
+    pub fn prepare(&mut self, alloc: Global, owners: &OwnerLists)
+        requires { AreIndexed self.old owners.now }
+        ensures { AreIndexed self.new owners.now }
     {
         if !self.is_wanted(owners.len()) {
             self.runs = None;
@@ -73,14 +73,9 @@ impl OwnersIndex {
     }
 
     /// Readies the index for one more set, as [`OwnersIndex::prepare`]; for an unlock, which goes on in the room that is held, it asks for none.
-    pub fn prepare_set(
-        &mut self,
-        alloc: Global,
-        owners: &BTreeMap<Owner, RangeList>,
-        mode: Option<Mode>,
-    )
-        requires { AreIndexed self.old owners.now.entries }
-        ensures { AreIndexed self.new owners.now.entries }
+    pub fn prepare_set(&mut self, alloc: Global, owners: &OwnerLists, mode: Option<Mode>)
+        requires { AreIndexed self.old owners.now }
+        ensures { AreIndexed self.new owners.now }
     {
         if mode.is_some() {
             self.prepare(alloc, owners);
@@ -176,11 +171,11 @@ fn add_runs(index: &mut RunIndex, owner: Owner, list: &[(Mode, Span)]) -> bool
 }
 
 /// An index of the runs of these lists, with room for more.
-fn index_of(alloc: Global, owners: &BTreeMap<Owner, RangeList>) -> Option<RunIndex>
-    ensures { IfSome result (λ index. AreRunsWhere (holder_modes (modes_among owners.now.entries)) (λ run. true) index.runs) }
+fn index_of(alloc: Global, owners: &OwnerLists) -> Option<RunIndex>
+    ensures { IfSome result (λ index. AreRunsWhere (holder_modes (modes_among owners.now)) (λ run. true) index.runs) }
 {
     let mut index = RunIndex::new(alloc);
-    for (owner, list) in owners {
+    for (owner, list) in owners.iter() {
         if !add_runs(&mut index, *owner, list.runs()) {
             return None;
         }

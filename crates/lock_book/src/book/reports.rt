@@ -28,7 +28,7 @@ impl Book {
         ensures ranges { IfOk result (λ locks. All (λ line. IsByteRange line.span) locks.items) }
     {
         let mut locks = Vec::new(self.alloc);
-        for (owner, list) in &self.owners {
+        for (owner, list) in self.owners.iter() {
             push_runs(&mut locks, file, *owner, list)?;
         }
         Ok(locks)

@@ -60,7 +60,7 @@ impl LockFile {
             None => Bound::Included(Owner::Description(0)),
             Some(owner) => Bound::Excluded(Owner::Description(owner)),
         };
-        let (owner, _) = self.book.lists().range((first, Bound::Unbounded)).next()?;
+        let (owner, _) = self.book.lists_from(first).next()?;
         match *owner {
             Owner::Description(owner) => Some(owner),
             // A process comes before each description.

@@ -23,22 +23,22 @@ loop-other-init c =
 pub returns-in_default : goal.returns-in_default
 returns-in_default c =
     let gives = c.into_iter-other-iterator.ensures.into_iter_gives in
-    let lists = c.lists-other-items.result.now in
-    let are = lists_at c.args.books.now c.from.result c.args.self.now.file c.index-books-from.result lists.entries
+    let lists = c.lists-other-items.result in
+    let are = lists_at c.args.books.now c.from.result c.args.self.now.file c.index-books-from.result lists
     (omega (arith, c.requires.file, c.from.ensures)) c.index-books-from.is c.from.ensures c.lists-other-items.ensures.modes in
     told_at_description _ _ _ _ lists are
     c.loop-other.blocking c.loop-other.yielded _ _ _ _ (c.in-Some.other, c.in-Some.list)
-    gives.0 c.loop-other.yielded_by c.in-Some.is c.next.ensures.steps gives.5
+    gives c.loop-other.yielded_by c.in-Some.is c.next.ensures.steps c.lists-other-items.ensures.rising
     c.in_default.field-0 c.in_default.is c.loop-other.invariant.only c.loop-other.invariant.each
 
 pub loop-other-preserved-then-is_empty : goal.loop-other-preserved-then-is_empty
 loop-other-preserved-then-is_empty c =
     let gives = c.into_iter-other-iterator.ensures.into_iter_gives in
-    let lists = c.lists-other-items.result.now in
-    let are = lists_at c.args.books.now c.from.result c.args.self.now.file c.index-books-from.result lists.entries
+    let lists = c.lists-other-items.result in
+    let are = lists_at c.args.books.now c.from.result c.args.self.now.file c.index-books-from.result lists
     (omega (arith, c.requires.file, c.from.ensures)) c.index-books-from.is c.from.ensures c.lists-other-items.ensures.modes in
     let modes = modes_in_loop lists _ are c.loop-other.yielded _ _ _ _ (c.in-Some.other, c.in-Some.list)
-    gives.0 c.loop-other.yielded_by c.in-Some.is c.next.ensures.steps gives.6 c.in-Process.process c.in-Process.is in
+    gives c.loop-other.yielded_by c.in-Some.is c.next.ensures.steps c.lists-other-items.ensures.found c.in-Process.process c.in-Process.is in
     let free = free_without_runs (modes_of c.in-Some.list.now) c.runs.result.now c.runs.ensures.runs (eqb-true _ _ (sym c.if-is_empty.ensures)) in
     record {
       can_next = tt;
@@ -52,11 +52,11 @@ loop-other-preserved-then-is_empty c =
 pub loop-other-preserved-then-is_blocked_by_list : goal.loop-other-preserved-then-is_blocked_by_list
 loop-other-preserved-then-is_blocked_by_list c =
     let gives = c.into_iter-other-iterator.ensures.into_iter_gives in
-    let lists = c.lists-other-items.result.now in
-    let are = lists_at c.args.books.now c.from.result c.args.self.now.file c.index-books-from.result lists.entries
+    let lists = c.lists-other-items.result in
+    let are = lists_at c.args.books.now c.from.result c.args.self.now.file c.index-books-from.result lists
     (omega (arith, c.requires.file, c.from.ensures)) c.index-books-from.is c.from.ensures c.lists-other-items.ensures.modes in
     let modes = modes_in_loop lists _ are c.loop-other.yielded _ _ _ _ (c.in-Some.other, c.in-Some.list)
-    gives.0 c.loop-other.yielded_by c.in-Some.is c.next.ensures.steps gives.6 c.in-Process.process c.in-Process.is in
+    gives c.loop-other.yielded_by c.in-Some.is c.next.ensures.steps c.lists-other-items.ensures.found c.in-Process.process c.in-Process.is in
     let blocks = c.is_blocked_by_list.ensures ((locks_of c.args.books.now).bytes c.args.self.now.file) modes in
     record {
       can_next = tt;
@@ -70,11 +70,11 @@ loop-other-preserved-then-is_blocked_by_list c =
 pub loop-other-preserved : goal.loop-other-preserved
 loop-other-preserved c =
     let gives = c.into_iter-other-iterator.ensures.into_iter_gives in
-    let lists = c.lists-other-items.result.now in
-    let are = lists_at c.args.books.now c.from.result c.args.self.now.file c.index-books-from.result lists.entries
+    let lists = c.lists-other-items.result in
+    let are = lists_at c.args.books.now c.from.result c.args.self.now.file c.index-books-from.result lists
     (omega (arith, c.requires.file, c.from.ensures)) c.index-books-from.is c.from.ensures c.lists-other-items.ensures.modes in
     let modes = modes_in_loop lists _ are c.loop-other.yielded _ _ _ _ (c.in-Some.other, c.in-Some.list)
-    gives.0 c.loop-other.yielded_by c.in-Some.is c.next.ensures.steps gives.6 c.in-Process.process c.in-Process.is in
+    gives c.loop-other.yielded_by c.in-Some.is c.next.ensures.steps c.lists-other-items.ensures.found c.in-Process.process c.in-Process.is in
     record {
       can_next = tt;
       is_finite = tt;
@@ -94,9 +94,9 @@ loop-other-preserved c =
 pub returns : goal.returns
 returns c =
     let gives = c.into_iter-other-iterator.ensures.into_iter_gives in
-    let lists = c.lists-other-items.result.now in
-    let are = lists_at c.args.books.now c.from.result c.args.self.now.file c.index-books-from.result lists.entries
+    let lists = c.lists-other-items.result in
+    let are = lists_at c.args.books.now c.from.result c.args.self.now.file c.index-books-from.result lists
     (omega (arith, c.requires.file, c.from.ensures)) c.index-books-from.is c.from.ensures c.lists-other-items.ensures.modes in
-    let whole = (iter_end deref_pair lists.entries c.loop-other.yielded _ _ _ _ gives.0 c.loop-other.yielded_by c.in-None.is c.next.ensures.steps).0 in
-    told_at_end _ _ _ _ lists.entries are
+    let whole = (iter_end deref_pair lists c.loop-other.yielded _ _ _ _ gives c.loop-other.yielded_by c.in-None.is c.next.ensures.steps).0 in
+    told_at_end _ _ _ _ lists are
     c.loop-other.blocking c.loop-other.yielded whole c.loop-other.invariant.only c.loop-other.invariant.each

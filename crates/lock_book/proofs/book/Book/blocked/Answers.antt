@@ -11,7 +11,7 @@ unfolding byte_modes_of list_of
 returns-in-Some c =
     let book = c.args.self.now in
     let modes = byte_modes_of book in
-    let told = c.is_blocked.ensures.modes (holder_modes modes) (c.in-Some.ensures.told book.owners.entries book.indexed) in (
+    let told = c.is_blocked.ensures.modes (holder_modes modes) (c.in-Some.ensures.told book.owners book.indexed) in (
       λ yes. conflict_from modes c.args.owner c.args.mode c.args.span
           (subst (λ (h : Holder). HolderConflict (holder_modes modes) h c.args.span c.args.mode) c.holder.ensures (told.0 yes)),
       λ conflict. told.1

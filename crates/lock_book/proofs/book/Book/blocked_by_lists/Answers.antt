@@ -1,4 +1,4 @@
-use Rattle.std.proofs.Common.{◌≡◌, not, sym, true, false, refl}
+use Rattle.std.proofs.Common.{◌∙◌, ◌≡◌, not, sym, true, false, refl}
 use Rattle.std.specs.Map.Iter.{deref_pair}
 use Rattle.std.proofs.lemmas.Bool.{not-true, not-false}
 use Rattle.std.proofs.lemmas.List.Elements.{All-push}
@@ -11,9 +11,9 @@ use Rattle.lock_book.proofs.book.Book.blocked_by_lists.Goals.{else-ne-via-then-n
 
 pub returns-then-is_some : goal.returns-then-is_some
 returns-then-is_some c =
-    let gives = c.into_iter-other-iterator.ensures.into_iter_gives in
+    let gives = c.into_iter-other-iterator.ensures.into_iter_gives ∙ c.iter-other-items.ensures.lists in
     let modes = modes_in_loop c.args.self.now c.loop-other.yielded _ _ _ _ (c.in-Some.other, c.in-Some.list)
-    gives.0 c.loop-other.yielded_by c.in-Some.is c.next.ensures.steps gives.6 in
+    gives c.loop-other.yielded_by c.in-Some.is c.next.ensures.steps c.iter-other-items.ensures.found in
     let test : true ≡ not (owner_eq c.in-Some.other.now c.args.owner) = c.if-ne.ensures in (
       λ _. conflict_from_hit _ _ _ _ c.in-Some.other.now c.first_hit.result (different_from_eq _ _ (not-true _ (sym test)))
           (sym c.if-is_some.ensures) (rw modes c.first_hit.ensures.hit),
@@ -22,9 +22,9 @@ returns-then-is_some c =
 
 pub loop-other-preserved-then-has_no_lock : goal.loop-other-preserved-then-has_no_lock
 loop-other-preserved-then-has_no_lock c =
-    let gives = c.into_iter-other-iterator.ensures.into_iter_gives in
+    let gives = c.into_iter-other-iterator.ensures.into_iter_gives ∙ c.iter-other-items.ensures.lists in
     let modes = modes_in_loop c.args.self.now c.loop-other.yielded _ _ _ _ (c.in-Some.other, c.in-Some.list)
-    gives.0 c.loop-other.yielded_by c.in-Some.is c.next.ensures.steps gives.6 in (
+    gives c.loop-other.yielded_by c.in-Some.is c.next.ensures.steps c.iter-other-items.ensures.found in (
       tt,
       tt,
       All-push (λ x. NeverBlocks (byte_modes_of c.args.self.now) c.args.owner c.args.span c.args.mode x.0.now) c.loop-other.yielded
@@ -34,9 +34,9 @@ loop-other-preserved-then-has_no_lock c =
 
 pub loop-other-preserved : goal.loop-other-preserved
 loop-other-preserved c =
-    let gives = c.into_iter-other-iterator.ensures.into_iter_gives in
+    let gives = c.into_iter-other-iterator.ensures.into_iter_gives ∙ c.iter-other-items.ensures.lists in
     let modes = modes_in_loop c.args.self.now c.loop-other.yielded _ _ _ _ (c.in-Some.other, c.in-Some.list)
-    gives.0 c.loop-other.yielded_by c.in-Some.is c.next.ensures.steps gives.6 in
+    gives c.loop-other.yielded_by c.in-Some.is c.next.ensures.steps c.iter-other-items.ensures.found in
     let never : NeverBlocks (byte_modes_of c.args.self.now) c.args.owner c.args.span c.args.mode c.in-Some.other.now =
     elim c.else-ne.branch [
       | else-ne-via-then-ne+else-is_some w ↦
@@ -53,8 +53,8 @@ loop-other-preserved c =
 
 pub returns : goal.returns
 returns c =
-    let gives = c.into_iter-other-iterator.ensures.into_iter_gives in
-    let whole = (iter_end deref_pair c.args.self.now.owners.entries c.loop-other.yielded _ _ _ _ gives.0 c.loop-other.yielded_by c.in-None.is c.next.ensures.steps).0 in (
+    let gives = c.into_iter-other-iterator.ensures.into_iter_gives ∙ c.iter-other-items.ensures.lists in
+    let whole = (iter_end deref_pair c.args.self.now.owners c.loop-other.yielded _ _ _ _ gives c.loop-other.yielded_by c.in-None.is c.next.ensures.steps).0 in (
       λ h. absurd (let e : false ≡ true = h in cc),
       λ conflict. absurd (least_none c.args.self.now c.loop-other.yielded _ _ _ whole c.loop-other.invariant.2 conflict),
     )

@@ -10,7 +10,7 @@ invariant_of-self c =
     let list = c.clear.new.self in
     let owners = c.get_mut.follows.lender list in
     let written = list_written book owners c.args.owner _ _ list c.get_mut.ensures.value c.in-Some.is (c.get_mut.follows.holds list) in
-    let puts = PutsAt-removes book owners c.remove.new.self c.args.owner (Some list) written.1 c.remove.ensures.updates in
+    let puts = PutsAt-removes book owners c.remove.new.self c.args.owner (Some list) written.1 c.remove.ensures.puts in
     let kept = AreKept-removed c.take_all.new.self book c.remove.new.self c.args.owner puts
     (indexed_cleared book c.remove.new.self c.args.owner None puts book.index c.take_all.new.self book.indexed c.in-Some.list.now
     written.0 (λ byte. refl) c.take_all.ensures) in
@@ -36,7 +36,7 @@ returns-then-is_idle c =
     let written = list_written book owners c.args.owner _ _ list c.get_mut.ensures.value c.in-Some.is (c.get_mut.follows.holds list) in
     let idle = c.is_idle.ensures.0 c.if-is_idle.true in
     ClearsOwner-puts book _ c.args.owner (Some c.in-Some.list.now) None
-    (PutsList-puts book _ _ _ refl (PutsAt-removes book owners c.remove.new.self c.args.owner (Some list) written.1 c.remove.ensures.updates)) written.0
+    (PutsList-puts book _ _ _ refl (PutsAt-removes book owners c.remove.new.self c.args.owner (Some list) written.1 c.remove.ensures.puts)) written.0
     (λ byte. refl) (sym idle.no_room ∙ c.clear.ensures.room)
 
 pub returns-else-is_idle : goal.returns-else-is_idle

@@ -1,5 +1,4 @@
-use Rattle.std.proofs.Common.{arith, ◌≡◌, sym, true, false}
-use Rattle.std.proofs.lemmas.Grind.{common_steps}
+use Rattle.std.proofs.Common.{◌∙◌, ◌≡◌, sym, true, false}
 use Rattle.std.specs.Map.Iter.{deref_pair}
 use Rattle.std.proofs.lemmas.Map.Iter.{iter_end}
 use Rattle.lock_book.specs.Books.{byte_modes_of}
@@ -10,9 +9,9 @@ use Rattle.lock_book.proofs.book.Book.first_hit_in_lists.Goals.{then-has_no_lock
 
 pub loop-other-preserved-then-has_no_lock : goal.loop-other-preserved-then-has_no_lock
 loop-other-preserved-then-has_no_lock c =
-    let gives = c.into_iter-other-iterator.ensures.into_iter_gives in
+    let gives = c.into_iter-other-iterator.ensures.into_iter_gives ∙ c.iter-other-items.ensures.lists in
     let modes = modes_in_loop c.args.self.now c.loop-other.yielded _ _ _ _ (c.in-Some.other, c.in-Some.list)
-    gives.0 c.loop-other.yielded_by c.in-Some.is c.next.ensures.steps gives.6 in
+    gives c.loop-other.yielded_by c.in-Some.is c.next.ensures.steps c.iter-other-items.ensures.found in
     let never : NeverBlocks (byte_modes_of c.args.self.now) c.args.owner c.args.span c.args.mode c.in-Some.other.now =
     elim c.then-has_no_lock.branch [
       | then-has_no_lock-via-then-has_no_lock w ↦
@@ -28,10 +27,10 @@ loop-other-preserved-then-has_no_lock c =
 
 pub loop-other-preserved-then-is_lower : goal.loop-other-preserved-then-is_lower
 loop-other-preserved-then-is_lower c =
-    let gives = c.into_iter-other-iterator.ensures.into_iter_gives in
+    let gives = c.into_iter-other-iterator.ensures.into_iter_gives ∙ c.iter-other-items.ensures.lists in
     let test : false ≡ owner_eq c.in-Some.other.now c.args.owner = c.if-eq.ensures in
     let modes = modes_in_loop c.args.self.now c.loop-other.yielded _ _ _ _ (c.in-Some.other, c.in-Some.list)
-    gives.0 c.loop-other.yielded_by c.in-Some.is c.next.ensures.steps gives.6 in (
+    gives c.loop-other.yielded_by c.in-Some.is c.next.ensures.steps c.iter-other-items.ensures.found in (
       tt,
       tt,
       least_replaces _ _ _ _ c.loop-other.yielded c.loop-other.first (c.in-Some.other, c.in-Some.list) c.in-Some-first_hit.byte
@@ -40,11 +39,11 @@ loop-other-preserved-then-is_lower c =
 
 pub loop-other-preserved-else-is_lower : goal.loop-other-preserved-else-is_lower
 loop-other-preserved-else-is_lower c =
-    let gives = c.into_iter-other-iterator.ensures.into_iter_gives in
+    let gives = c.into_iter-other-iterator.ensures.into_iter_gives ∙ c.iter-other-items.ensures.lists in
     let modes = modes_in_loop c.args.self.now c.loop-other.yielded _ _ _ _ (c.in-Some.other, c.in-Some.list)
-    gives.0 c.loop-other.yielded_by c.in-Some.is c.next.ensures.steps gives.6 in
+    gives c.loop-other.yielded_by c.in-Some.is c.next.ensures.steps c.iter-other-items.ensures.found in
     let before = before_in_loop c.args.self.now c.loop-other.yielded _ _ _ _ (c.in-Some.other, c.in-Some.list)
-    gives.0 c.loop-other.yielded_by c.in-Some.is c.next.ensures.steps gives.5 in (
+    gives c.loop-other.yielded_by c.in-Some.is c.next.ensures.steps c.iter-other-items.ensures.rising in (
       tt,
       tt,
       least_stays _ _ _ _ c.loop-other.yielded c.loop-other.first (c.in-Some.other, c.in-Some.list) c.in-Some-first_hit.byte
@@ -53,9 +52,9 @@ loop-other-preserved-else-is_lower c =
 
 pub loop-other-preserved : goal.loop-other-preserved
 loop-other-preserved c =
-    let gives = c.into_iter-other-iterator.ensures.into_iter_gives in
+    let gives = c.into_iter-other-iterator.ensures.into_iter_gives ∙ c.iter-other-items.ensures.lists in
     let modes = modes_in_loop c.args.self.now c.loop-other.yielded _ _ _ _ (c.in-Some.other, c.in-Some.list)
-    gives.0 c.loop-other.yielded_by c.in-Some.is c.next.ensures.steps gives.6 in (
+    gives c.loop-other.yielded_by c.in-Some.is c.next.ensures.steps c.iter-other-items.ensures.found in (
       tt,
       tt,
       least_skip _ _ _ _ c.loop-other.yielded c.loop-other.first (c.in-Some.other, c.in-Some.list) c.loop-other.invariant.2
@@ -64,20 +63,23 @@ loop-other-preserved c =
 
 pub returns-clause-hit : goal.returns-clause-hit
 returns-clause-hit c =
-    let gives = c.into_iter-other-iterator.ensures.into_iter_gives in
-    let whole = (iter_end deref_pair c.args.self.now.owners.entries c.loop-other.yielded _ _ _ _ gives.0 c.loop-other.yielded_by c.in-None.is c.next.ensures.steps).0 in
+    let gives = c.into_iter-other-iterator.ensures.into_iter_gives ∙ c.iter-other-items.ensures.lists in
+    let whole = (iter_end deref_pair c.args.self.now.owners c.loop-other.yielded _ _ _ _ gives c.loop-other.yielded_by c.in-None.is c.next.ensures.steps).0 in
     first_from_least _ _ _ _ _ _ whole c.loop-other.invariant.2
 
 pub returns-clause-none : goal.returns-clause-none
-returns-clause-none c = grind (arith, common_steps, iter_end, none_from_least)
+returns-clause-none c =
+    let gives = c.into_iter-other-iterator.ensures.into_iter_gives ∙ c.iter-other-items.ensures.lists in
+    let whole = (iter_end deref_pair c.args.self.now.owners c.loop-other.yielded _ _ _ _ gives c.loop-other.yielded_by c.in-None.is c.next.ensures.steps).0 in
+    none_from_least _ _ _ _ _ _ whole c.loop-other.invariant.2
 
 pub returns-then-byte-span-clause-hit : goal.returns-then-byte-span-clause-hit
 returns-then-byte-span-clause-hit c =
-    let gives = c.into_iter-other-iterator.ensures.into_iter_gives in
+    let gives = c.into_iter-other-iterator.ensures.into_iter_gives ∙ c.iter-other-items.ensures.lists in
     let test : false ≡ owner_eq c.in-Some.other.now c.args.owner = c.if-eq.ensures in
     let modes = modes_in_loop c.args.self.now c.loop-other.yielded _ _ _ _ (c.in-Some.other, c.in-Some.list)
-    gives.0 c.loop-other.yielded_by c.in-Some.is c.next.ensures.steps gives.6 in
-    first_at_start c.args.self.now c.loop-other.yielded _ _ _ _ (c.in-Some.other, c.in-Some.list) gives.0 c.loop-other.yielded_by c.in-Some.is c.next.ensures.steps gives.5
+    gives c.loop-other.yielded_by c.in-Some.is c.next.ensures.steps c.iter-other-items.ensures.found in
+    first_at_start c.args.self.now c.loop-other.yielded _ _ _ _ (c.in-Some.other, c.in-Some.list) gives c.loop-other.yielded_by c.in-Some.is c.next.ensures.steps c.iter-other-items.ensures.rising
     c.args.owner c.args.span c.args.mode c.in-Some-first_hit.byte c.if-byte-span.true
     (least_replaces _ _ _ _ c.loop-other.yielded c.loop-other.first (c.in-Some.other, c.in-Some.list) c.in-Some-first_hit.byte
     c.loop-other.invariant.2 (different_from_eq _ _ (sym test)) (rw modes c.in-Some-first_hit.ensures.hit) c.if-is_lower.ensures)

@@ -10,6 +10,6 @@ returns-in-Some c =
     let book = c.args.self.now in
     let modes = byte_modes_of book in
     let runs = c.in-Some.index.now.runs in (
-      λ yes. none_without_runs modes runs (c.in-Some.ensures.told book.owners.entries book.indexed) (sym c.len.ensures ∙ eqb-true c.len.result 0 yes),
-      λ none. eq-eqb c.len.result 0 (c.len.ensures ∙ no_runs modes runs (c.in-Some.ensures.kept book.owners.entries book.indexed) none),
+      λ yes. none_without_runs modes runs (c.in-Some.ensures.told book.owners book.indexed) (sym c.len.ensures ∙ eqb-true c.len.result 0 yes),
+      λ none. eq-eqb c.len.result 0 (c.len.ensures ∙ no_runs modes runs (c.in-Some.ensures.kept book.owners book.indexed) none),
     )

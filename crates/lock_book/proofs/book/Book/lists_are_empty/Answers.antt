@@ -11,9 +11,9 @@ use Rattle.lock_book.proofs.book.Book.lists_are_empty.Goals as goal
 
 pub returns-then-not-is_empty : goal.returns-then-not-is_empty
 returns-then-not-is_empty c =
-    let gives = c.into_iter-list-iterator.ensures.into_iter_gives in
+    let gives = c.into_iter-list-iterator.ensures.into_iter_gives ∙ c.iter-list-items.ensures.lists in
     let modes = modes_in_loop c.args.self.now c.loop-list.yielded _ _ _ _ (c.in-Some.field-0-0, c.in-Some.list)
-    gives.0 c.loop-list.yielded_by c.in-Some.is c.next.ensures.steps gives.6 in
+    gives c.loop-list.yielded_by c.in-Some.is c.next.ensures.steps c.iter-list-items.ensures.found in
     let free = free_by_runs (modes_of c.in-Some.list.now) c.runs.result.now c.runs.ensures.runs c.is_empty.result c.is_empty.ensures in (
       λ h. absurd (let e : false ≡ true = h in cc),
       λ none. absurd (let yes = free.1 (λ byte. sym (ap (λ (m : ℕ → Option Mode). m byte) modes) ∙ none c.in-Some.field-0-0.now byte) in
@@ -22,9 +22,9 @@ returns-then-not-is_empty c =
 
 pub loop-list-preserved : goal.loop-list-preserved
 loop-list-preserved c =
-    let gives = c.into_iter-list-iterator.ensures.into_iter_gives in
+    let gives = c.into_iter-list-iterator.ensures.into_iter_gives ∙ c.iter-list-items.ensures.lists in
     let modes = modes_in_loop c.args.self.now c.loop-list.yielded _ _ _ _ (c.in-Some.field-0-0, c.in-Some.list)
-    gives.0 c.loop-list.yielded_by c.in-Some.is c.next.ensures.steps gives.6 in
+    gives c.loop-list.yielded_by c.in-Some.is c.next.ensures.steps c.iter-list-items.ensures.found in
     let free = free_by_runs (modes_of c.in-Some.list.now) c.runs.result.now c.runs.ensures.runs c.is_empty.result c.is_empty.ensures in (
       tt,
       tt,
@@ -34,6 +34,6 @@ loop-list-preserved c =
 
 pub returns : goal.returns
 returns c =
-    let gives = c.into_iter-list-iterator.ensures.into_iter_gives in
-    let whole = (iter_end deref_pair c.args.self.now.owners.entries c.loop-list.yielded _ _ _ _ gives.0 c.loop-list.yielded_by c.in-None.is c.next.ensures.steps).0 in
+    let gives = c.into_iter-list-iterator.ensures.into_iter_gives ∙ c.iter-list-items.ensures.lists in
+    let whole = (iter_end deref_pair c.args.self.now.owners c.loop-list.yielded _ _ _ _ gives c.loop-list.yielded_by c.in-None.is c.next.ensures.steps).0 in
     (λ yes. no_modes c.args.self.now c.loop-list.yielded whole c.loop-list.invariant.2, λ none. refl)

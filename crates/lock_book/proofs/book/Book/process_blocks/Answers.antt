@@ -14,7 +14,7 @@ returns-then-ne c =
     let test : true ≡ not (owner_eq (Process c.args.process) c.args.owner) = c.if-ne.ensures in
     let different : Process c.args.process ≢ c.args.owner = different_from_eq _ _ (not-true _ (sym test)) in
     let modes : byte_modes_of c.args.self.now (Process c.args.process) ≡ modes_of c.in-Some.list.now =
-    byte_modes_of-list _ _ _ (list_of-found _ _ _ _ c.get.ensures.value c.in-Some.is) in
+    byte_modes_of-list _ _ _ (list_of-found _ _ _ _ c.get.ensures c.in-Some.is) in
     rw c.is_some.ensures (ProcessBlocks-hit _ _ _ _ _ c.first_hit.result different
     (rw modes c.first_hit.ensures.hit) (rw modes c.first_hit.ensures.none))
 

@@ -2,15 +2,15 @@ use Rattle.std.proofs.lemmas.Grind.{common_steps}
 use Rattle.std.proofs.Common.{◌≡◌, ◌∙◌, refl, Some, None, arith}
 use Rattle.std.proofs.lemmas.Result.{on_ok_weaker, on_err_weaker}
 use Rattle.lock_book.specs.Books.{list_of}
-use Rattle.lock_book.proofs.BookLemmas.{list_of-lent, list_of-not_lent, list_written, PutsAt-adds, PutsList-puts, still_in_use, in_use_by_room, SameButRoom-puts, SameBook-puts, room_in-list}
+use Rattle.lock_book.proofs.BookLemmas.{room_held, room_kept, list_of-lent, list_of-not_lent, list_written, PutsAt-adds, PutsList-puts, still_in_use, in_use_by_room, SameButRoom-puts, SameBook-puts, room_in-list}
 use Rattle.lock_book.proofs.KeptLemmas.{AreKept-insert, AreKept-left, AreKept-list, kept_same}
 use Rattle.lock_book.proofs.book.Book.reserve.Goals as goal
 
 pub returns-in_err-reserve-in-None-clause-there : goal.returns-in_err-reserve-in-None-clause-there
 returns-in_err-reserve-in-None-clause-there c there = grind (arith, common_steps, list_of-not_lent, room_in-list)
 
-pub returns-in_err-insert-in-None-clause-there : goal.returns-in_err-insert-in-None-clause-there
-returns-in_err-insert-in-None-clause-there c there = grind (arith, common_steps, list_of-not_lent, room_in-list)
+pub returns-in_err-add-in-None-clause-there : goal.returns-in_err-add-in-None-clause-there
+returns-in_err-add-in-None-clause-there c there = grind (arith, common_steps, list_of-not_lent, room_in-list)
 
 pub returns-in-Some-clause-ok : goal.returns-in-Some-clause-ok
 returns-in-Some-clause-ok c =
@@ -28,6 +28,26 @@ returns-in-Some-clause-there c there =
     list_of-lent _ _ _ _ c.get_mut.ensures.value c.in-Some.is in
     let room = room_in-list _ _ _ was in c.reserve.ensures.there (omega arith)
 
+pub returns-in-Some-clause-kept : goal.returns-in-Some-clause-kept
+returns-in-Some-clause-kept c =
+    let book = c.args.self.now in
+    let list = c.reserve.new.self in
+    let owners = c.get_mut.follows.lender list in
+    let written = list_written book owners c.args.owner _ _ list c.get_mut.ensures.value c.in-Some.is (c.get_mut.follows.holds list) in
+    on_ok_weaker c.reserve.result
+    (λ room. room_kept book _ c.args.owner c.in-Some.list.now list (PutsList-puts book _ _ _ refl written.1) written.0 c.reserve.ensures.kept)
+    c.reserve.ensures.ok
+
+pub returns-in-Some-clause-room : goal.returns-in-Some-clause-room
+returns-in-Some-clause-room c =
+    let book = c.args.self.now in
+    let list = c.reserve.new.self in
+    let owners = c.get_mut.follows.lender list in
+    let written = list_written book owners c.args.owner _ _ list c.get_mut.ensures.value c.in-Some.is (c.get_mut.follows.holds list) in
+    on_ok_weaker c.reserve.result
+    (λ room. room_held book _ c.args.owner list c.args.sets (PutsList-puts book _ _ _ refl written.1) room)
+    c.reserve.ensures.ok
+
 pub returns-in-Some-clause-err : goal.returns-in-Some-clause-err
 returns-in-Some-clause-err c =
     let book = c.args.self.now in
@@ -38,13 +58,13 @@ returns-in-Some-clause-err c =
     (λ same. SameBook-puts book _ c.args.owner _ list (PutsList-puts book _ _ _ refl written.1) written.0 same.modes same.room)
     c.reserve.ensures.err
 
-pub returns-in_ok-insert-in-None-clause-ok : goal.returns-in_ok-insert-in-None-clause-ok
-returns-in_ok-insert-in-None-clause-ok c =
+pub returns-in_ok-add-in-None-clause-ok : goal.returns-in_ok-add-in-None-clause-ok
+returns-in_ok-add-in-None-clause-ok c =
     let book = c.args.self.now in
     SameButRoom-puts book _ c.args.owner None c.reserve-in-None.new.self
     (PutsList-puts book _ _ _ refl
-    (PutsAt-adds book _ c.insert.new.self c.args.owner (Some c.reserve-in-None.new.self) c.get_mut.follows.holds-at-none
-    c.in_ok-insert-in-None.ensures.updates))
+    (PutsAt-adds book _ c.add.new.self c.args.owner (Some c.reserve-in-None.new.self) c.get_mut.follows.holds-at-none
+    c.in_ok-add-in-None.ensures.ok))
     (list_of-not_lent _ _ _ c.get_mut.ensures.value c.in-None.is)
     (λ byte. c.reserve-in-None.ensures.modes byte ∙ c.new-list.ensures.modes byte)
 
@@ -64,9 +84,9 @@ invariant_of-self-in-None c =
     let book = c.args.self.now in
     let added = c.reserve-in-None.new.self in
     let none : list_of book c.args.owner ≡ None = list_of-not_lent _ _ _ c.get_mut.ensures.value c.in-None.is in
-    let kept = AreKept-insert c.prepare.new.self book _ c.insert.new.self c.args.owner added c.insert.result c.get_mut.follows.holds-at-none
-    c.insert.ensures.updates c.insert.ensures.err (in_use_by_room added (let room = c.in_ok-reserve-in-None.ensures.ok in omega arith))
-    c.prepare.ensures (λ puts. kept_same book c.insert.new.self c.args.owner (Some added) puts c.prepare.new.self None none
+    let kept = AreKept-insert c.prepare.new.self book _ c.add.new.self c.args.owner added c.add.result c.get_mut.follows.holds-at-none
+    c.add.ensures.ok c.add.ensures.err (in_use_by_room added (let room = c.in_ok-reserve-in-None.ensures.ok in omega arith))
+    c.prepare.ensures (λ puts. kept_same book c.add.new.self c.args.owner (Some added) puts c.prepare.new.self None none
     (λ byte. c.reserve-in-None.ensures.modes byte ∙ c.new-list.ensures.modes byte) c.prepare.ensures) in
     record { in_use = kept.in_use; indexed = kept.indexed }
 

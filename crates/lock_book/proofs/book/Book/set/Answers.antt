@@ -4,7 +4,7 @@ use Rattle.std.specs.Prelude.{if◌then◌else◌}
 use Rattle.range_core.specs.declared.Mode.{Mode}
 use Rattle.range_core.specs.Changes.{is_covered, modes_of}
 use Rattle.range_core.specs.Ranges.{SplitsRun}
-use Rattle.lock_book.proofs.BookLemmas.{list_of-not_lent, list_written, PutsAt-adds, PutsAt-removes, PutsList-puts, SetsOwnerMode-puts, SetsOwnerMode-nothing, SameBook-puts, none_from_test, in_use_by_mode, still_in_use}
+use Rattle.lock_book.proofs.BookLemmas.{room_kept, list_of-not_lent, list_written, PutsAt-adds, PutsAt-removes, PutsList-puts, SetsOwnerMode-puts, SetsOwnerMode-nothing, SameBook-puts, none_from_test, in_use_by_mode, still_in_use}
 use Rattle.lock_book.proofs.KeptLemmas.{AreKept-left, AreKept-list, AreKept-removed, indexed_added, indexed_set, found_added, indexed_again, PutsIn}
 use Rattle.std.proofs.lemmas.Bool.{false≢true}
 use Rattle.range_core.specs.declared.list.RangeList.{RangeList}
@@ -40,7 +40,7 @@ invariant_of-self-then-is_idle c =
     let list = c.set.new.self in
     let owners = c.get_mut.follows.lender list in
     let written = list_written book owners c.args.owner _ _ list c.get_mut.ensures.value c.in-Some.is (c.get_mut.follows.holds list) in
-    let puts = PutsAt-removes book owners c.remove.new.self c.args.owner (Some list) written.1 c.remove.ensures.updates in
+    let puts = PutsAt-removes book owners c.remove.new.self c.args.owner (Some list) written.1 c.remove.ensures.puts in
     let idle = c.is_idle.ensures.0 c.if-is_idle.true in
     let kept = AreKept-removed c.put_in-in-Some.new.self book c.remove.new.self c.args.owner puts
     (indexed_set book c.remove.new.self c.args.owner None puts c.prepare_set.new.self c.take_out.new.self c.prepare_set.ensures c.in-Some.list.now list c.put_in-in-Some.new.self c.args.span c.args.mode
@@ -67,7 +67,7 @@ returns-then-is_idle-clause-ok c =
     let written = list_written book owners c.args.owner _ _ list c.get_mut.ensures.value c.in-Some.is (c.get_mut.follows.holds list) in
     let idle = c.is_idle.ensures.0 c.if-is_idle.true in
     SetsOwnerMode-puts book _ c.args.owner (Some c.in-Some.list.now) None _ _
-    (PutsList-puts book _ _ _ refl (PutsAt-removes book owners c.remove.new.self c.args.owner (Some list) written.1 c.remove.ensures.updates)) written.0
+    (PutsList-puts book _ _ _ refl (PutsAt-removes book owners c.remove.new.self c.args.owner (Some list) written.1 c.remove.ensures.puts)) written.0
     (λ byte. sym (idle.free byte) ∙ c.in_default.ensures.ok byte)
 
 pub returns-else-is_idle-clause-ok : goal.returns-else-is_idle-clause-ok
@@ -84,24 +84,24 @@ invariant_of-self-in-None c =
     let book = c.args.self.now in
     let added = c.set-in-None.new.self in
     let none = list_of-not_lent _ _ _ c.get_mut.ensures.value c.in-None.is in
-    let puts = PutsAt-adds book _ c.insert.new.self c.args.owner (Some added) c.get_mut.follows.holds-at-none c.in_ok-insert-in-None.ensures.updates in
-    let kept = AreKept-list c.put_in-in-None.new.self book c.insert.new.self c.args.owner added puts
+    let puts = PutsAt-adds book _ c.add.new.self c.args.owner (Some added) c.get_mut.follows.holds-at-none c.in_ok-add-in-None.ensures.ok in
+    let kept = AreKept-list c.put_in-in-None.new.self book c.add.new.self c.args.owner added puts
     (in_use_by_mode (modes_of c.new-added.result) added c.args.span c.args.mode c.requires c.if-is_none.ensures c.in_ok-set-in-None.ensures.ok)
-    (indexed_added book c.insert.new.self c.args.owner added c.prepare_set.new.self c.put_in-in-None.new.self c.args.span c.args.mode puts c.prepare_set.ensures none
+    (indexed_added book c.add.new.self c.args.owner added c.prepare_set.new.self c.put_in-in-None.new.self c.args.span c.args.mode puts c.prepare_set.ensures none
     (λ byte. c.in_ok-set-in-None.ensures.ok byte
     ∙ ap (λ (other : Option Mode). if is_covered c.args.span byte then c.args.mode else other) (c.new-added.ensures.modes byte))
     (subst (λ (l : RangeList). PutsIn c.prepare_set.new.self c.put_in-in-None.new.self c.args.owner l c.args.span)
-    (sym (found_added book c.insert.new.self c.args.owner added c.get.result c.unwrap-list.result puts c.get.ensures.value c.unwrap-list.ensures))
+    (sym (found_added book c.add.new.self c.args.owner added c.get.result c.unwrap-list.result puts c.get.ensures c.unwrap-list.ensures))
     c.put_in-in-None.ensures)) in
     record { in_use = kept.in_use; indexed = kept.indexed }
 
-pub returns-in_ok-insert-in-None-clause-ok : goal.returns-in_ok-insert-in-None-clause-ok
-returns-in_ok-insert-in-None-clause-ok c =
+pub returns-in_ok-add-in-None-clause-ok : goal.returns-in_ok-add-in-None-clause-ok
+returns-in_ok-add-in-None-clause-ok c =
     let book = c.args.self.now in
     SetsOwnerMode-puts book _ c.args.owner None (Some c.set-in-None.new.self) _ _
     (PutsList-puts book _ _ _ refl
-    (PutsAt-adds book _ c.insert.new.self c.args.owner (Some c.set-in-None.new.self) c.get_mut.follows.holds-at-none
-    c.in_ok-insert-in-None.ensures.updates))
+    (PutsAt-adds book _ c.add.new.self c.args.owner (Some c.set-in-None.new.self) c.get_mut.follows.holds-at-none
+    c.in_ok-add-in-None.ensures.ok))
     (list_of-not_lent _ _ _ c.get_mut.ensures.value c.in-None.is)
     (λ byte. c.in_ok-set-in-None.ensures.ok byte
     ∙ ap (λ (other : Option Mode). if is_covered c.args.span byte then c.args.mode else other) (c.new-added.ensures.modes byte))
@@ -123,3 +123,11 @@ returns-in-Err-clause-unlock c unlock whole =
     let owners = c.get_mut.follows.lender list in
     let written = list_written book owners c.args.owner _ _ list c.get_mut.ensures.value c.in-Some.is (c.get_mut.follows.holds list) in
     absurd (false≢true (c.in-Err.ensures.unlock unlock (λ splits. whole (subst (λ (l : Option RangeList). SplitsRun (modes_in_list l) c.args.span) (sym written.0) splits))))
+
+pub returns-else-is_idle-clause-room : goal.returns-else-is_idle-clause-room
+returns-else-is_idle-clause-room c =
+    let book = c.args.self.now in
+    let list = c.set.new.self in
+    let owners = c.get_mut.follows.lender list in
+    let written = list_written book owners c.args.owner _ _ list c.get_mut.ensures.value c.in-Some.is (c.get_mut.follows.holds list) in
+    room_kept book _ c.args.owner c.in-Some.list.now list (PutsList-puts book _ _ _ refl written.1) written.0 c.in_default.ensures.room

@@ -16,7 +16,7 @@ invariant_of-self c =
     let list = c.set_reserved.new.self in
     let owners = c.get_mut.follows.lender list in
     let written = list_written book owners c.args.owner _ _ list c.get_mut.ensures.value c.unwrap-list.ensures (c.get_mut.follows.holds list) in
-    let puts = PutsAt-removes book owners c.remove.new.self c.args.owner (Some list) written.1 c.remove.ensures.updates in
+    let puts = PutsAt-removes book owners c.remove.new.self c.args.owner (Some list) written.1 c.remove.ensures.puts in
     let idle = c.is_idle.ensures.0 c.if-is_idle.true in
     let kept = AreKept-removed c.put_in.new.self book c.remove.new.self c.args.owner puts
     (indexed_set book c.remove.new.self c.args.owner None puts book.index c.take_out.new.self book.indexed c.unwrap-list.result.now list c.put_in.new.self c.args.span c.args.mode
@@ -43,7 +43,7 @@ returns-then-is_idle-clause-sets c =
     let written = list_written book owners c.args.owner _ _ list c.get_mut.ensures.value c.unwrap-list.ensures (c.get_mut.follows.holds list) in
     let idle = c.is_idle.ensures.0 c.if-is_idle.true in
     SetsOwnerMode-puts book _ c.args.owner (Some c.unwrap-list.result.now) None _ _
-    (PutsList-puts book _ _ _ refl (PutsAt-removes book owners c.remove.new.self c.args.owner (Some list) written.1 c.remove.ensures.updates)) written.0
+    (PutsList-puts book _ _ _ refl (PutsAt-removes book owners c.remove.new.self c.args.owner (Some list) written.1 c.remove.ensures.puts)) written.0
     (λ byte. sym (idle.free byte) ∙ c.set_reserved.ensures.modes byte)
 
 pub returns-then-is_idle-clause-room : goal.returns-then-is_idle-clause-room
@@ -56,7 +56,7 @@ returns-then-is_idle-clause-room c =
     let none = idle.no_room in
     let kept = c.set_reserved.ensures.room in
     room_left book _ c.args.owner (Some c.unwrap-list.result.now) None 1
-    (PutsList-puts book _ _ _ refl (PutsAt-removes book owners c.remove.new.self c.args.owner (Some list) written.1 c.remove.ensures.updates)) written.0 (omega arith)
+    (PutsList-puts book _ _ _ refl (PutsAt-removes book owners c.remove.new.self c.args.owner (Some list) written.1 c.remove.ensures.puts)) written.0 (omega arith)
 
 pub returns-else-is_idle-clause-sets : goal.returns-else-is_idle-clause-sets
 returns-else-is_idle-clause-sets c =

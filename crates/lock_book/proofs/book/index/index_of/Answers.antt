@@ -1,4 +1,4 @@
-use Rattle.std.proofs.Common.{true, sym, subst, List}
+use Rattle.std.proofs.Common.{◌∙◌, true, sym, subst, List}
 use Rattle.std.specs.Map.Iter.{deref_pair}
 use Rattle.std.proofs.lemmas.Map.Iter.{iter_end}
 use Rattle.interval_index.specs.declared.Run.{Run}
@@ -8,9 +8,9 @@ use Rattle.lock_book.proofs.book.index.index_of.Goals as goal
 
 pub loop-owner-preserved : goal.loop-owner-preserved
 loop-owner-preserved c =
-    let entries = c.args.owners.now.entries in
-    let gives = c.into_iter-owner-iterator.ensures.into_iter_gives in
-    let same = modes_of_next c.args.owners.now c.loop-owner.yielded _ _ _ _ (c.in-Some.owner, c.in-Some.list) gives.0 c.loop-owner.yielded_by c.in-Some.is c.next.ensures.steps gives.6 in (
+    let entries = c.args.owners.now in
+    let gives = c.into_iter-owner-iterator.ensures.into_iter_gives ∙ c.iter-owner-items.ensures.lists in
+    let same = modes_of_next c.args.owners.now c.loop-owner.yielded _ _ _ _ (c.in-Some.owner, c.in-Some.list) gives c.loop-owner.yielded_by c.in-Some.is c.next.ensures.steps c.iter-owner-items.ensures.found in (
       tt,
       tt,
       more_indexed entries c.loop-owner.yielded (c.in-Some.owner, c.in-Some.list) c.runs.result.now c.add_runs.new.index.runs same c.runs.ensures.runs
@@ -20,8 +20,8 @@ loop-owner-preserved c =
 
 pub returns : goal.returns
 returns c =
-    let entries = c.args.owners.now.entries in
-    let gives = c.into_iter-owner-iterator.ensures.into_iter_gives in
-    let whole = (iter_end deref_pair entries c.loop-owner.yielded _ _ _ _ gives.0 c.loop-owner.yielded_by c.in-None.is c.next.ensures.steps).0 in
+    let entries = c.args.owners.now in
+    let gives = c.into_iter-owner-iterator.ensures.into_iter_gives ∙ c.iter-owner-items.ensures.lists in
+    let whole = (iter_end deref_pair entries c.loop-owner.yielded _ _ _ _ gives c.loop-owner.yielded_by c.in-None.is c.next.ensures.steps).0 in
     subst (λ (l : List Run). AreRunsWhere (holder_modes (modes_among entries)) (λ run. true) l) (sym c.reserve.ensures.runs)
     (all_indexed entries c.loop-owner.yielded c.loop-owner.index.runs whole c.loop-owner.invariant.2)

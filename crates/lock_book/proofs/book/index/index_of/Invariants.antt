@@ -8,4 +8,4 @@ abbrev pub invariant-loop-owner : goal.invariant-loop-owner
 invariant-loop-owner l =
     (goal.iterator-loop-owner).can_next l.owner-iterator ×
     (goal.iterator-loop-owner).is_finite l.owner-iterator ×
-    AreRunsWhere (holder_modes (modes_among l.owners.entries)) (λ run. list_any (λ item. is_same_holder (as_holder item.0.now) (holder_of run)) l.yielded) l.index.runs
+    AreRunsWhere (holder_modes (modes_among l.owners)) (λ run. list_any (λ item. is_same_holder (as_holder item.0.now) (holder_of run)) l.yielded) l.index.runs

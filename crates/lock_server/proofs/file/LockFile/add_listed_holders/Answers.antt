@@ -1,12 +1,13 @@
 use Rattle.std.proofs.Common.{ℕ, ◌≡◌, ◌∙◌, sym, subst, Some}
-use Rattle.std.specs.BTreeMap.{get}
+use Rattle.std.specs.Map.{lookup}
 use Rattle.std.specs.Map.Iter.{deref_pair}
 use Rattle.std.proofs.lemmas.Map.Iter.{iter_end}
 use Rattle.range_core.specs.Changes.{modes_of}
 use Rattle.lock_server.specs.Blockers.{BlocksOn}
+use Rattle.lock_book.specs.Owners.{is_same_owner}
 use Rattle.lock_server.specs.FileView.{file_state}
 use Rattle.lock_server.proofs.BlockerLemmas.{hit_blocks, listed_all, listed_push, listed_skip, no_hit}
-use Rattle.lock_server.proofs.ExportLemmas.{description_same, list_modes, owner_cmp}
+use Rattle.lock_server.proofs.ExportLemmas.{description_same, list_modes}
 use Rattle.lock_server.proofs.WalkLemmas.{next_entry}
 use Rattle.lock_server.proofs.file.LockFile.add_listed_holders.Goals as goal
 use Rattle.lock_server.proofs.file.LockFile.add_listed_holders.Goals.{else-number-owner-via-then-number-owner+else-is_some, else-number-owner-via-else-number-owner}
@@ -21,10 +22,10 @@ loop-other-preserved-in_default c = (
 
 pub loop-other-preserved-then-is_some : goal.loop-other-preserved-then-is_some
 loop-other-preserved-then-is_some c =
-    let lists = c.lists-other-items.result.now in
+    let lists = c.lists-other-items.result in
     let gives = c.into_iter-other-iterator.ensures.into_iter_gives in
-    let there = next_entry (λ e. get owner_cmp lists e.0 ≡ Some e.1) lists.entries c.loop-other.yielded _ _ _ _ (c.in-Some.other, c.in-Some.list)
-    gives.0 c.loop-other.yielded_by c.in-Some.is c.next.ensures.steps gives.6 in
+    let there = next_entry (λ e. lookup (is_same_owner e.0) lists ≡ Some e.1) lists c.loop-other.yielded _ _ _ _ (c.in-Some.other, c.in-Some.list)
+    gives c.loop-other.yielded_by c.in-Some.is c.next.ensures.steps c.lists-other-items.ensures.found in
     let same = list_modes c.args.self.now lists c.in-Some.other.now c.in-Description.number c.in-Some.list.now c.lists-other-items.ensures.modes
     c.in-Description.is there in (
       tt,
@@ -39,10 +40,10 @@ loop-other-preserved-then-is_some c =
 pub loop-other-preserved : goal.loop-other-preserved
 loop-other-preserved c =
     let F = file_state c.args.self.now in
-    let lists = c.lists-other-items.result.now in
+    let lists = c.lists-other-items.result in
     let gives = c.into_iter-other-iterator.ensures.into_iter_gives in
-    let there = next_entry (λ e. get owner_cmp lists e.0 ≡ Some e.1) lists.entries c.loop-other.yielded _ _ _ _ (c.in-Some.other, c.in-Some.list)
-    gives.0 c.loop-other.yielded_by c.in-Some.is c.next.ensures.steps gives.6 in
+    let there = next_entry (λ e. lookup (is_same_owner e.0) lists ≡ Some e.1) lists c.loop-other.yielded _ _ _ _ (c.in-Some.other, c.in-Some.list)
+    gives c.loop-other.yielded_by c.in-Some.is c.next.ensures.steps c.lists-other-items.ensures.found in
     let same = list_modes c.args.self.now lists c.in-Some.other.now c.in-Description.number c.in-Some.list.now c.lists-other-items.ensures.modes
     c.in-Description.is there in
     let none : ¬ BlocksOn F c.args.owner c.args.span c.args.mode c.in-Description.number = elim c.else-number-owner.branch [
@@ -61,8 +62,8 @@ loop-other-preserved c =
 
 pub returns : goal.returns
 returns c =
-    let lists = c.lists-other-items.result.now in
+    let lists = c.lists-other-items.result in
     let gives = c.into_iter-other-iterator.ensures.into_iter_gives in
-    let whole = (iter_end deref_pair lists.entries c.loop-other.yielded _ _ _ _ gives.0 c.loop-other.yielded_by c.in-None.is c.next.ensures.steps).0 in
+    let whole = (iter_end deref_pair lists c.loop-other.yielded _ _ _ _ gives c.loop-other.yielded_by c.in-None.is c.next.ensures.steps).0 in
     listed_all c.args.self.now c.args.owner c.args.span c.args.mode lists c.loop-other.yielded c.args.owners.now.items c.loop-other.owners.items
     c.lists-other-items.ensures.modes whole c.loop-other.invariant.2

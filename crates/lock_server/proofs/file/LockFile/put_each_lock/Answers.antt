@@ -1,10 +1,11 @@
 use Rattle.std.proofs.Common.{◌≡◌, Some}
-use Rattle.std.specs.BTreeMap.{get}
+use Rattle.std.specs.Map.{lookup}
 use Rattle.std.specs.Map.Iter.{deref_pair}
 use Rattle.std.proofs.lemmas.Map.Iter.{iter_end}
 use Rattle.lock_server.specs.Bytes.{lock_words}
+use Rattle.lock_book.specs.Owners.{is_same_owner}
 use Rattle.lock_server.specs.FileView.{file_state}
-use Rattle.lock_server.proofs.ExportLemmas.{IsLockPiece, all_locks, list_modes, owner_cmp, owner_piece_of, process_piece}
+use Rattle.lock_server.proofs.ExportLemmas.{IsLockPiece, all_locks, list_modes, owner_piece_of, process_piece}
 use Rattle.lock_server.proofs.WalkLemmas.{next_entry, walked_more, walked_none, walked_past}
 use Rattle.lock_server.proofs.file.LockFile.put_each_lock.Goals as goal
 
@@ -21,10 +22,10 @@ loop-owner-preserved-in_default c = (
 
 pub put_runs-behind-requires : goal.put_runs-behind-requires
 put_runs-behind-requires c =
-    let lists = c.lists-owner-items.result.now in
+    let lists = c.lists-owner-items.result in
     let gives = c.into_iter-owner-iterator.ensures.into_iter_gives in
-    let there = next_entry (λ e. get owner_cmp lists e.0 ≡ Some e.1) lists.entries c.loop-owner.yielded _ _ _ _ (c.in-Some.owner, c.in-Some.list)
-    gives.0 c.loop-owner.yielded_by c.in-Some.is c.next.ensures.steps gives.6 in
+    let there = next_entry (λ e. lookup (is_same_owner e.0) lists ≡ Some e.1) lists c.loop-owner.yielded _ _ _ _ (c.in-Some.owner, c.in-Some.list)
+    gives c.loop-owner.yielded_by c.in-Some.is c.next.ensures.steps c.lists-owner-items.ensures.found in
     list_modes c.args.self.now lists c.in-Some.owner.now c.in-Description.number c.in-Some.list.now c.lists-owner-items.ensures.modes c.in-Description.is there
 
 pub loop-owner-preserved : goal.loop-owner-preserved
@@ -39,7 +40,7 @@ loop-owner-preserved c = (
 
 pub returns : goal.returns
 returns c =
-    let lists = c.lists-owner-items.result.now in
+    let lists = c.lists-owner-items.result in
     let gives = c.into_iter-owner-iterator.ensures.into_iter_gives in
-    let whole = (iter_end deref_pair lists.entries c.loop-owner.yielded _ _ _ _ gives.0 c.loop-owner.yielded_by c.in-None.is c.next.ensures.steps).0 in
-    all_locks c.args.self.now lists c.loop-owner.yielded lock_words _ _ _ _ c.lists-owner-items.ensures.modes gives.5 whole c.loop-owner.invariant.2
+    let whole = (iter_end deref_pair lists c.loop-owner.yielded _ _ _ _ gives c.loop-owner.yielded_by c.in-None.is c.next.ensures.steps).0 in
+    all_locks c.args.self.now lists c.loop-owner.yielded lock_words _ _ _ _ c.lists-owner-items.ensures.modes c.lists-owner-items.ensures.rising whole c.loop-owner.invariant.2

@@ -1,0 +1,273 @@
+//! The lists of the owners of byte locks on one file.
+ghost use Rattle.std.specs.Prelude.{◌≡◌, [], ◌∷◌, None, Some, IfOk, OnOk, OnErr, false, length};
+ghost use Rattle.std.specs.List.{filter};
+ghost use Rattle.std.specs.Map.{lookup};
+ghost use Rattle.std.specs.Option.{option_copied, option_copied_mut};
+ghost use Rattle.std.specs.Borrow.{sem};
+ghost use Rattle.lock_book.specs.Owners.{is_from, is_same_owner};
+ghost use Rattle.lock_book.specs.Kept.{pair_of, unboxed};
+ghost use Rattle.lock_book.specs.OwnerLists.{AreFound, AreRising, PutsFor};
+
+use crate::Owner;
+use range_core::{Memory, RangeList};
+use std::alloc::Global;
+use std::collections::BTreeMap;
+use std::collections::btree_map::Range;
+use std::marker::Model;
+use std::mem;
+use std::ops::Bound;
+
+/// The lists of the owners that have one, seen as the owners with their lists, by owner.
+///
+/// Almost all files have one owner: its list takes no block of its own.
+#[derive(Drop)]
+pub struct OwnerLists {
+    kept: Kept,
+}
+
+impl Model for OwnerLists {
+    ghost use Rattle.std.specs.Prelude.{List};
+    ghost use Rattle.range_core.specs.declared.list.RangeList.{RangeList};
+    ghost use Rattle.lock_book.specs.declared.Owner.{Owner};
+
+    ghost Value = { List (Owner × RangeList) };
+
+    ghost use Rattle.lock_book.specs.Kept.{lists_in};
+
+    ghost view = { λ a. lists_in a.kept };
+}
+
+/// How many lists there are, and these. Each of many lies in a block of its own, so that a leaf of the map is small.
+#[derive(Drop)]
+enum Kept {
+    Nothing,
+    One(OwnedList),
+    Many(BTreeMap<Owner, Box<RangeList>>),
+}
+
+/// An owner with its list.
+#[derive(Drop)]
+struct OwnedList {
+    owner: Owner,
+    list: RangeList,
+}
+
+impl OwnerLists {
+    ghost use Rattle.lock_book.specs.Lending.{LendsList};
+
+    /// No list.
+    pub fn new() -> OwnerLists
+        ensures { result ≡ [] }
+    {
+        OwnerLists {
+            kept: Kept::Nothing,
+        }
+    }
+
+    /// How many owners have a list.
+    pub fn len(&self) -> usize
+        ensures { result ≡ length self.now }
+    {
+        match &self.kept {
+            Kept::Nothing => 0,
+            Kept::One(_) => 1,
+            Kept::Many(lists) => lists.len(),
+        }
+    }
+
+    /// The list of the owner.
+    pub fn get(&self, owner: Owner) -> Option<&RangeList>
+        ensures { option_copied result ≡ lookup (is_same_owner owner) self.now }
+    {
+        match &self.kept {
+            Kept::Nothing => None,
+            Kept::One(one) => {
+                if one.owner == owner {
+                    Some(&one.list)
+                } else {
+                    None
+                }
+            }
+            Kept::Many(lists) => Some(lists.get(&owner)?.as_ref()),
+        }
+    }
+
+    /// The list of the owner, which may be changed.
+    pub fn get_mut(&mut self, owner: Owner) -> Option<&mut RangeList>
+        ensures* lends { sem 𝓛 (LendsList self.entry owner result) }
+        ensures value { option_copied_mut result ≡ lookup (is_same_owner owner) self.old }
+    {
+        self.kept.get_mut(owner)
+    }
+
+    /// Adds the list of an owner that has none.
+    ///
+    /// `Memory` leaves the lists as they were.
+    pub fn add(&mut self, alloc: Global, owner: Owner, list: RangeList) -> Result<(), Memory>
+        requires { lookup (is_same_owner owner) self.old ≡ None }
+        ensures ok { OnOk result (PutsFor self.old self.new owner (Some list)) }
+        ensures err { OnErr result (self.new ≡ self.old) }
+    {
+        let added = OwnedList { owner, list };
+        match &mut self.kept {
+            Kept::Nothing => self.kept = Kept::One(added),
+            Kept::One(one) => self.kept = Kept::Many(map_of(alloc, one, added)?),
+            Kept::Many(lists) => {
+                let list = Box::new(alloc, added.list)?;
+                lists.insert(owner, list)?;
+            }
+        }
+        Ok(())
+    }
+
+    /// Takes the list of the owner out. It takes no memory.
+    pub fn remove(&mut self, owner: Owner) -> Option<RangeList>
+        ensures value { result ≡ lookup (is_same_owner owner) self.old }
+        ensures puts { PutsFor self.old self.new owner None }
+    {
+        match mem::replace(&mut self.kept, Kept::Nothing) {
+            Kept::One(one) if one.owner == owner => Some(one.list),
+            Kept::Many(mut lists) => {
+                let list = lists.remove(&owner).map(Box::into_inner);
+                if !lists.is_empty() {
+                    self.kept = Kept::Many(lists);
+                }
+                list
+            }
+            kept => {
+                self.kept = kept;
+                None
+            }
+        }
+    }
+
+    /// The owners with their lists, by owner.
+    pub fn iter(&self) -> Lists<'_>
+        ensures lists { result ≡ self.now }
+        ensures rising { AreRising self.now }
+        ensures found { AreFound self.now }
+    {
+        self.iter_from(Bound::Unbounded)
+    }
+
+    /// The owners from this bound on, with their lists, by owner.
+    pub fn iter_from(&self, from: Bound<Owner>) -> Lists<'_>
+        ensures lists { result ≡ filter (λ one. is_from from one.0) self.now }
+        ensures rising { AreRising self.now }
+    {
+        let left = match &self.kept {
+            Kept::Nothing => Left::One(None),
+            Kept::One(one) => Left::One(is_owner_from(from, one.owner).then_some(one)),
+            Kept::Many(lists) => Left::Many(lists.range((from, Bound::Unbounded))),
+        };
+        Lists { left }
+    }
+}
+
+impl Kept {
+    ghost use Rattle.lock_book.specs.Kept.{LendsKept, lists_in};
+
+    /// The list of the owner, which may be changed.
+    fn get_mut(&mut self, owner: Owner) -> Option<&mut RangeList>
+        ensures* lends { sem 𝓛 (LendsKept self.entry owner result) }
+        ensures value { option_copied_mut result ≡ lookup (is_same_owner owner) (lists_in self.old) }
+    {
+        match self {
+            Kept::Nothing => None,
+            Kept::One(one) => {
+                if one.owner == owner {
+                    return Some(&mut one.list);
+                }
+                None
+            }
+            Kept::Many(lists) => {
+                let list = lists.get_mut(&owner)?;
+                Some(list.as_mut())
+            }
+        }
+    }
+}
+
+/// A map of the lists of two owners; that of the first is moved into it.
+///
+/// `Memory` leaves it where it was.
+fn map_of(
+    alloc: Global,
+    one: &mut OwnedList,
+    other: OwnedList,
+) -> Result<BTreeMap<Owner, Box<RangeList>>, Memory>
+    requires { is_same_owner other.owner one.old.owner ≡ false }
+    ensures ok { IfOk result (λ lists. PutsFor (pair_of one.old ∷ []) (unboxed lists.entries) other.owner (Some other.list)) }
+    ensures err { OnErr result (one.new ≡ one.old) }
+{
+    let mut lists = BTreeMap::new(alloc);
+    let empty = Box::new(alloc, RangeList::new(alloc))?;
+    lists.insert(one.owner, empty)?;
+    let added = Box::new(alloc, other.list)?;
+    lists.insert(other.owner, added)?;
+    // From here on nothing fails.
+    let list = lists.get_mut(&one.owner).unwrap();
+    mem::swap(list.as_mut(), &mut one.list);
+    Ok(lists)
+}
+
+/// Whether the owner is at the bound, or behind it.
+fn is_owner_from(from: Bound<Owner>, owner: Owner) -> bool
+    ensures { result ≡ is_from from owner }
+{
+    match from {
+        Bound::Included(first) => first <= owner,
+        Bound::Excluded(last) => last < owner,
+        Bound::Unbounded => true,
+    }
+}
+
+/// Owners with their lists, by owner.
+#[derive(Drop)]
+pub struct Lists<'a> {
+    left: Left<'a>,
+}
+
+/// Those that are still to come.
+#[derive(Drop)]
+enum Left<'a> {
+    One(Option<&'a OwnedList>),
+    Many(Range<'a, Owner, Box<RangeList>>),
+}
+
+impl<'a> Model for Lists<'a> {
+    ghost use Rattle.std.specs.Prelude.{List};
+    ghost use Rattle.range_core.specs.declared.list.RangeList.{RangeList};
+    ghost use Rattle.lock_book.specs.declared.Owner.{Owner};
+
+    ghost Value = { List (Owner × RangeList) };
+
+    ghost use Rattle.lock_book.specs.Kept.{lists_left};
+
+    ghost view = { λ a. lists_left a.left };
+}
+
+impl<'a> Iterator for Lists<'a> {
+    ghost use Rattle.std.specs.Prelude.{length};
+    ghost use Rattle.std.specs.Iterator.{at_most};
+    ghost use Rattle.std.specs.Map.Iter.{TakesFirst, deref_pair};
+
+    type Item = (&'a Owner, &'a RangeList);
+
+    ghost next_gives = { TakesFirst deref_pair };
+
+    ghost remaining = { λ lists. at_most (length lists) };
+
+    fn next(&mut self) -> Option<(&'a Owner, &'a RangeList)> {
+        match &mut self.left {
+            Left::One(one) => {
+                let one = one.take()?;
+                Some((&one.owner, &one.list))
+            }
+            Left::Many(lists) => {
+                let (owner, list) = lists.next()?;
+                Some((owner, list.as_ref()))
+            }
+        }
+    }
+}
