@@ -14,7 +14,7 @@ use Rattle.lock_book.specs.contracts.book.lists.OwnedList as owned_list
 use Rattle.lock_book.specs.contracts.book.lists.OwnerLists as lists
 
 index_send : IsSend index.the_row
-index_send = search (sendable, runs_send) depth 20
+index_send = search (Box-send, sendable, runs_send) depth 20
 
 owner_send : IsSend owner.the_row
 owner_send = search sendable depth 20

@@ -1,8 +1,8 @@
 -- What an index of all owners' runs tells of the locks of a file, and what stays of it when these change: for `Book::set`, `Book::blocked` and others.
-use Rattle.std.proofs.Common.{◌≡◌, ◌≢◌, ℕ, ◌⊎◌, inl, inr, Bool, true, false, not, ◌&&◌, ◌||◌, ◌==◌, Option, Some, None, List, [], ◌∷◌, ◌++◌, All, Any, get_or, length, map, refl, sym, ap, ◌∙◌, subst, arith}
-use Rattle.std.specs.Prelude.{IfNone, IfSome}
+use Rattle.std.proofs.Common.{◌≡◌, ◌≢◌, ℕ, ◌⊎◌, inl, inr, Bool, true, false, not, ◌&&◌, ◌||◌, ◌==◌, Option, Some, None, List, [], ◌∷◌, ◌++◌, All, Any, get_or, length, map, refl, sym, ap, ◌∙◌, subst, arith, Box, Global, Result, Ok, Err}
+use Rattle.std.specs.Prelude.{IfNone, IfOk, IfSome, IsSomeAnd, MatchOption}
+use Rattle.std.specs.Result.{result_ok}
 use Rattle.std.specs.Borrow.{Bor}
-use Rattle.std.specs.Option.{option_copied}
 use Rattle.std.specs.List.{list_any}
 use Rattle.std.specs.Map.{lookup}
 use Rattle.std.proofs.lemmas.Bool.{cases_Bool, cond-false, eq-eqb, eqb-true, and_from, and_left, and_parts, not-true, not_from_false, or_left, or_right, false_from_ne_true}
@@ -415,22 +415,53 @@ each_listed modes runs are mode run is =
     list_any_at (λ listed. listed.1.first == run.first) runs any.0 found any.2
     (ap (λ (r : Mode × Span). r.1.first == run.first) any.3 ∙ eq-eqb found.1.first run.first at)
 
--- where an index is kept of lists, it tells what each owner has
+-- where there is an index, it is found, out of its box
+abbrev pub IsFoundIn : Option (Box RunContents Global) → Option (Bor RunContents) → Type 0
+IsFoundIn runs found = MatchOption runs (found ≡ None) (λ block. IsSomeAnd found (λ lent. lent.now ≡ block.value))
+
+-- so what holds of the one holds of the other
+found_in_box : (P : RunContents → Type 0) (runs : Option (Box RunContents Global)) (found : Option (Bor RunContents)) → IsFoundIn runs found
+    → ((block : Box RunContents Global) → runs ≡ Some block → P block.value) → IfSome found (λ lent. P lent.now)
+found_in_box P None None none holds = tt
+found_in_box P None (Some lent) none holds = absurd (let e : Some lent ≡ None = none in cc)
+found_in_box P (Some block) None some holds = tt
+found_in_box P (Some block) (Some lent) same holds = subst P (sym same) (holds block refl)
+
+-- where an index is kept of lists, it keeps their runs
+pub kept_by_index : (index : OwnersIndex) (lists : List (Owner × RangeList)) → AreIndexed index lists → (found : Option (Bor RunContents))
+    → IsFoundIn index.runs found → IfSome found (λ runs. AreRunsWhere (holder_modes (modes_among lists)) (λ run. true) runs.now.runs)
+kept_by_index index lists indexed found is =
+    found_in_box (λ contents. AreRunsWhere (holder_modes (modes_among lists)) (λ run. true) contents.runs) index.runs found is indexed
+
+-- and tells what each owner has
 pub told_by_index : ListsStandForRuns → (index : OwnersIndex) (lists : List (Owner × RangeList)) → AreIndexed index lists → (found : Option (Bor RunContents))
-    → option_copied found ≡ index.runs → IfSome found (λ runs. AreRunsOf (holder_modes (modes_among lists)) runs.now.runs)
-told_by_index stand index lists indexed None value = tt
-told_by_index stand index lists indexed (Some found) value =
-    AreRunsOf-where (holder_modes (modes_among lists)) found.now.runs (indexed found.now (sym value)) (lists_round stand lists)
+    → IsFoundIn index.runs found → IfSome found (λ runs. AreRunsOf (holder_modes (modes_among lists)) runs.now.runs)
+told_by_index stand index lists indexed found is =
+    found_in_box (λ contents. AreRunsOf (holder_modes (modes_among lists)) contents.runs) index.runs found is
+    (λ block at. AreRunsOf-where (holder_modes (modes_among lists)) block.value.runs (indexed block at) (lists_round stand lists))
 
 -- what holds anyhow holds where there is nothing
 pub IfNone-anyhow : {A P : Type 0} (o : Option A) → P → IfNone o P
 IfNone-anyhow None holds = holds
 IfNone-anyhow (Some x) holds = tt
 
--- what is kept of an index is kept of its contents
-pub kept_new : (modes : HolderModes) (passes : Run → Bool) (index contents : RunContents) → AreRunsWhere modes passes index.runs → Some index ≡ Some contents
-    → AreRunsWhere modes passes contents.runs
-kept_new modes passes index contents are is = let same : index ≡ contents = cc in subst (λ (c : RunContents). AreRunsWhere modes passes c.runs) same are
+-- what is kept of an index is kept of it in its box
+pub kept_new : (modes : HolderModes) (passes : Run → Bool) (left block : Box RunContents Global) → AreRunsWhere modes passes left.value.runs
+    → Some left ≡ Some block → AreRunsWhere modes passes block.value.runs
+kept_new modes passes left block are is =
+    let same : left ≡ block = cc in subst (λ (b : Box RunContents Global). AreRunsWhere modes passes b.value.runs) same are
+
+-- what is kept of it in its box is kept of it where it is lent
+pub kept_lent : (modes : HolderModes) (passes : Run → Bool) (block : Box RunContents Global) (lent : RunContents) → lent ≡ block.value
+    → AreRunsWhere modes passes block.value.runs → AreRunsWhere modes passes lent.runs
+kept_lent modes passes block lent same are = subst (λ (c : RunContents). AreRunsWhere modes passes c.runs) (sym same) are
+
+-- and what is kept of it is kept of it once it is put into a box, unless that is refused
+pub kept_put : {E : Type 0} (modes : HolderModes) (passes : Run → Bool) (contents : RunContents) (put : Result (Box RunContents Global) E)
+    → IfOk put (λ block. block.value ≡ contents) → AreRunsWhere modes passes contents.runs
+    → IfSome (result_ok put) (λ block. AreRunsWhere modes passes block.value.runs)
+kept_put {E} modes passes contents (Ok block) same are = subst (λ (c : RunContents). AreRunsWhere modes passes c.runs) (sym same) are
+kept_put {E} modes passes contents (Err refused) same are = tt
 
 -- of a loop over the owners' lists
 module _ (lists : List (Owner × RangeList)) where

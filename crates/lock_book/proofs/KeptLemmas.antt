@@ -56,29 +56,29 @@ module _ (old : Book) (owners : List (Owner × RangeList)) (owner : Owner) (afte
   pub outside_set : (index : OwnersIndex) (before : Option RangeList) (span : Span) (mode : Option Mode) → list_of old owner ≡ before
       → SetsMode (modes_in_list before) (modes_in_list after) span mode
       → IsKeptOutside index (modes_among old.owners) owner span → IsKeptOutside index (modes_among owners) owner span
-  outside_set index before span mode was sets kept contents is =
-      AreRunsWhere-set (modes_among old.owners) (modes_among owners) owner span contents.runs modes_apart
+  outside_set index before span mode was sets kept block is =
+      AreRunsWhere-set (modes_among old.owners) (modes_among owners) owner span block.value.runs modes_apart
       (λ byte free. modes_now byte ∙ sets byte ∙ cond-false (is_covered span byte) mode (modes_in_list before byte) (not_covered span byte free)
-      ∙ sym (modes_was old owner before was byte)) (kept contents is)
+      ∙ sym (modes_was old owner before was byte)) (kept block is)
 
   -- what is kept of the others is all where the owner has no mode any more
   pub kept_without : (index : OwnersIndex) → ((byte : ℕ) → modes_in_list after byte ≡ None) → IsKeptWithout index (modes_among old.owners) owner
       → AreIndexed index owners
-  kept_without index free kept contents is =
-      AreRunsWhere-cleared (modes_among old.owners) (modes_among owners) owner contents.runs modes_apart
-      (λ byte. modes_now byte ∙ free byte) (kept contents is)
+  kept_without index free kept block is =
+      AreRunsWhere-cleared (modes_among old.owners) (modes_among owners) owner block.value.runs modes_apart
+      (λ byte. modes_now byte ∙ free byte) (kept block is)
 
   module _ (index : OwnersIndex) (before : Option RangeList) (was : list_of old owner ≡ before)
       (same : (byte : ℕ) → modes_in_list after byte ≡ modes_in_list before byte) where
     -- with the same modes nothing changes
     kept_where : (passes : Run → Bool) → IsKeptWhere index (modes_among old.owners) passes → IsKeptWhere index (modes_among owners) passes
-    kept_where passes kept contents is =
-        AreRunsWhere-same (modes_among old.owners) (modes_among owners) passes contents.runs
+    kept_where passes kept block is =
+        AreRunsWhere-same (modes_among old.owners) (modes_among owners) passes block.value.runs
         (λ other byte. elim (cases_owner owner other) [
           | inl own ↦ subst (λ (o : Owner). modes_among owners o byte ≡ modes_among old.owners o byte) own
               (modes_now byte ∙ same byte ∙ sym (modes_was old owner before was byte))
           | inr apart ↦ modes_apart other apart byte
-        ]) (kept contents is)
+        ]) (kept block is)
 
     pub kept_same : AreIndexed index old.owners → AreIndexed index owners
     kept_same kept = kept_where (λ run. true) kept
@@ -89,8 +89,8 @@ module _ (old : Book) (owners : List (Owner × RangeList)) (owner : Owner) (afte
 -- of an owner without a list all is kept outside its range
 pub outside_new : (old : Book) (owner : Owner) (index : OwnersIndex) (span : Span) → list_of old owner ≡ None → AreIndexed index old.owners
     → IsKeptOutside index (modes_among old.owners) owner span
-outside_new old owner index span none kept contents is =
-    AreRunsWhere-outside (modes_among old.owners) owner span contents.runs (modes_was old owner None none) (kept contents is)
+outside_new old owner index span none kept block is =
+    AreRunsWhere-outside (modes_among old.owners) owner span block.value.runs (modes_was old owner None none) (kept block is)
 
 -- what the calls of an index promise
 abbrev pub TakesOut : OwnersIndex → OwnersIndex → Owner → RangeList → Span → Type 0

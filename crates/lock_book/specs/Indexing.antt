@@ -3,6 +3,8 @@ use Rattle.std.specs.Prelude.{◌≡◌, ℕ, ◌+◌, ◌<◌, ◌≤◌, ◌==
 use Rattle.std.specs.Bool.{nat_le}
 use Rattle.std.specs.List.{AllWithin, list_any}
 use Rattle.std.specs.Map.{lookup}
+use Rattle.std.specs.declared.alloc.Global.{Global}
+use Rattle.std.specs.declared.boxed.Box.{Box}
 use Rattle.std.proofs.Props.{props}
 use Rattle.range_core.specs.declared.Span.{Span}
 use Rattle.range_core.specs.declared.list.RangeList.{RangeList}
@@ -70,7 +72,8 @@ pub record AreRunsWhere (modes : HolderModes) (passes : Run → Bool) (runs : Li
 
 -- where there is an index, it keeps the owners' runs that pass
 abbrev pub IsKeptWhere : OwnersIndex → ByteModes → (Run → Bool) → Type 0
-IsKeptWhere index modes passes = (contents : RunContents) → index.runs ≡ Some contents → AreRunsWhere (holder_modes modes) passes contents.runs
+IsKeptWhere index modes passes =
+    (block : Box RunContents Global) → index.runs ≡ Some block → AreRunsWhere (holder_modes modes) passes block.value.runs
 
 -- it keeps the runs of all owners
 abbrev pub IsKeptAs : OwnersIndex → ByteModes → Type 0

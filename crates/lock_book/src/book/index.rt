@@ -29,9 +29,11 @@ const FEW_RUNS: u64 = 4;
 const SPARE_RUNS: u64 = 64;
 
 /// The runs of all owners of a file, or none: it is a help and no more, and where its memory is refused there is none.
+///
+/// Almost all files have few owners: the index of many is in a box, so that a file without one takes little.
 #[derive(Drop)]
 pub struct OwnersIndex {
-    runs: Option<RunIndex>,
+    runs: Option<Box<RunIndex>>,
 }
 
 impl OwnersIndex {
@@ -51,7 +53,7 @@ impl OwnersIndex {
     {
         // A byte that has a mode lies in some largest range.
         lists_stand_for_runs();
-        self.runs.as_ref()
+        self.runs.as_deref()
     }
 
     /// Readies the index for one more set: makes it where there are many owners and none, drops it where few are left with few
@@ -87,7 +89,7 @@ impl OwnersIndex {
         owners > FEW_OWNERS
             || self
                 .runs
-                .as_ref()
+                .as_deref()
                 .is_some_and(|index| index.len() > FEW_RUNS)
     }
 
@@ -98,7 +100,7 @@ impl OwnersIndex {
             → IsKeptOutside self.new modes owner span }
     {
         if let Some(index) = &mut self.runs {
-            take_runs(index, owner, touching(list, span));
+            take_runs(index.as_mut(), owner, touching(list, span));
         }
     }
 
@@ -108,7 +110,7 @@ impl OwnersIndex {
             → IsKeptWithout self.new modes owner }
     {
         if let Some(index) = &mut self.runs {
-            take_runs(index, owner, list.runs());
+            take_runs(index.as_mut(), owner, list.runs());
         }
     }
 
@@ -122,7 +124,7 @@ impl OwnersIndex {
         let Some(index) = &mut self.runs else {
             return;
         };
-        if !put_runs(index, owner, touching(list, span)) {
+        if !put_runs(index.as_mut(), owner, touching(list, span)) {
             self.runs = None;
         }
     }
@@ -170,9 +172,9 @@ fn add_runs(index: &mut RunIndex, owner: Owner, list: &[(Mode, Span)]) -> bool
     true
 }
 
-/// An index of the runs of these lists, with room for more.
-fn index_of(alloc: Global, owners: &OwnerLists) -> Option<RunIndex>
-    ensures { IfSome result (λ index. AreRunsWhere (holder_modes (modes_among owners.now)) (λ run. true) index.runs) }
+/// An index of the runs of these lists, with room for more; none where memory is refused.
+fn index_of(alloc: Global, owners: &OwnerLists) -> Option<Box<RunIndex>>
+    ensures { IfSome result (λ index. AreRunsWhere (holder_modes (modes_among owners.now)) (λ run. true) index.value.runs) }
 {
     let mut index = RunIndex::new(alloc);
     for (owner, list) in owners.iter() {
@@ -182,7 +184,7 @@ fn index_of(alloc: Global, owners: &OwnerLists) -> Option<RunIndex>
     }
     // Where that fails there is still the room that is left.
     let _ = index.reserve(SPARE_RUNS);
-    Some(index)
+    Box::new(alloc, index).ok()
 }
 
 /// The runs of the list that share a byte with the span or lie right beside it.

@@ -3,7 +3,7 @@ use Rattle.std.specs.Map.Iter.{deref_pair}
 use Rattle.std.proofs.lemmas.Map.Iter.{iter_end}
 use Rattle.interval_index.specs.declared.Run.{Run}
 use Rattle.lock_book.specs.Indexing.{AreRunsWhere, holder_modes, modes_among}
-use Rattle.lock_book.proofs.IndexedLemmas.{IsOfItems, all_indexed, each_held, modes_of_next, more_indexed}
+use Rattle.lock_book.proofs.IndexedLemmas.{IsOfItems, all_indexed, each_held, kept_put, modes_of_next, more_indexed}
 use Rattle.lock_book.proofs.book.index.index_of.Goals as goal
 
 pub loop-owner-preserved : goal.loop-owner-preserved
@@ -23,5 +23,6 @@ returns c =
     let entries = c.args.owners.now in
     let gives = c.into_iter-owner-iterator.ensures.into_iter_gives ∙ c.iter-owner-items.ensures.lists in
     let whole = (iter_end deref_pair entries c.loop-owner.yielded _ _ _ _ gives c.loop-owner.yielded_by c.in-None.is c.next.ensures.steps).0 in
-    subst (λ (l : List Run). AreRunsWhere (holder_modes (modes_among entries)) (λ run. true) l) (sym c.reserve.ensures.runs)
-    (all_indexed entries c.loop-owner.yielded c.loop-owner.index.runs whole c.loop-owner.invariant.2)
+    rw c.ok.ensures.value (kept_put (holder_modes (modes_among entries)) (λ run. true) c.reserve.new.self c.new.result c.new.ensures.ok
+    (subst (λ (l : List Run). AreRunsWhere (holder_modes (modes_among entries)) (λ run. true) l) (sym c.reserve.ensures.runs)
+    (all_indexed entries c.loop-owner.yielded c.loop-owner.index.runs whole c.loop-owner.invariant.2)))
