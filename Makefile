@@ -27,12 +27,12 @@ released:
 # threads, in whatever order comes), the large scripts, the samples, and what every order of scripts comes to on the program as two
 # compilers built it in the gate, what the library's calls tell C where a C compiler is there, what the README (which links that library),
 # the help and the manual page show, the names that the documents point to, that the tests of script_core have these worked scripts, that
-# want of memory is made at one place, that each edit still compiles, and the conformance tools' tests but for those that a busy machine can
-# upset.
+# want of memory is made at one place, that each edit still compiles, that wrong bodies of crates without must-fail/ (which would have them
+# proved twice) are refused for what they mean, and the conformance tools' tests but for those that a busy machine can upset.
 WORKED := $(basename $(wildcard tests/worked-scripts/*.out)) $(wildcard tests/threads/*)
 # (one proof a processor: by its own guess of the memory that the two largest crates take, rt leaves processors idle beside them)
 test:
-	RT_JOBS=$${RT_JOBS:-$$(nproc)} tools/gate-line rt ci
+	RT_JOBS=$${RT_JOBS:-$$(nproc)} tools/gate-line tools/keep-libraries rt ci
 	sh tests/command-line.sh $(PROGRAM)
 	sh tests/command-line.sh $(PROGRAM).by-rattle
 	sh tests/lines.sh $(PROGRAM)
@@ -62,6 +62,12 @@ test:
 	tools/memory-is-passed-on
 	sh tools/bad-edits.sh
 	tools/edit-reasons --compile
+	tools/edit-reasons session_core entry_of_another_step every_journal_is_a_run no_journal_is_a_run \
+	    run_all_brings_the_first_request_each_time take_next_is_always_none takes_the_mail_of_a_waiting_process
+	tools/edit-reasons call_table closed_is_always_false collect_invents_a_reply collect_is_always_none collect_looks_only_where_it_posted \
+	    desk_fills_the_cell_behind_the_next post_is_always_busy serve_one_is_idle_before_the_last_process wait_for_invents_a_reply
+	tools/edit-reasons script_core accepts_minus_zero
+	tools/edit-reasons replay_core prints_the_first_line_of_a_faulty_script
 	cd conformance && LOCKREPLAY=$(abspath $(PROGRAM)) python3 -m unittest tests.test_corpus tests.test_judging tests.test_lies tests.test_torture \
 	    tests.test_traces
 	tools/gate-line --passed
