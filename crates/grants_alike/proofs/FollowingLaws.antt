@@ -17,7 +17,7 @@ use Rattle.lock_server.specs.Files.{FileState, GetsLock, SetsLock}
 use Rattle.lock_server.specs.Settling.{Settles as ServerSettles, IsHeldBack, IsNext, Grants}
 use Rattle.grants_alike.specs.Alike.{Numbers, AreSameWaits, waits_on_file, AreAlike, AreOnlyOn, EnginesGrantAlike}
 use Rattle.grants_alike.proofs.WaitLemmas.{is_on_file, each_blocked, are_blocked, SameSplit, split_there, split_here, the_one_between, others_between, on_file_all}
-use Rattle.grants_alike.proofs.NextLemmas.{AreOn, one_here, one_there, all_there, all_here}
+use Rattle.grants_alike.proofs.NextLemmas.{AreOn, one_here, one_there, all_alike}
 use Rattle.grants_alike.proofs.GrantLemmas.{alike_after, alike_elsewhere}
 use Rattle.grants_alike.proofs.SettlingLaws.{are_on, blocked_there, blocked_here, waits_around, blocked_before, grants_alike}
 
@@ -63,8 +63,8 @@ module _ (numbers : Numbers) (file : ℕ) (S : State) (before : List Wait) (wait
         ready = λ held_back. next.ready (one_here numbers file (locks_held S) F alike.owners alike.descriptions alike.locks wait pending on
             split.wait_same held_back);
         earliest = are_blocked (IsHeldBack F) [] before'
-            (all_there numbers file (locks_held S) F alike.owners alike.descriptions alike.locks (waits_on_file file before) before' (are_on file before)
-            split.before_same (blocked_before numbers file S F before wait after alike next));
+            ((all_alike numbers file (locks_held S) F alike.owners alike.descriptions alike.locks (waits_on_file file before) before' (are_on file before)
+            split.before_same).0 (blocked_before numbers file S F before wait after alike next));
       }
 
   grant_settles : FilesSettle numbers file (granted_by S before wait after) → FilesSettle numbers file S
@@ -126,7 +126,7 @@ module _ (numbers : Numbers) (file : ℕ) (S : State) (F N : FileState) (pending
         ready = λ blocked. grants.is_next.ready (one_there numbers file (locks_held S) F alike.owners alike.descriptions alike.locks wait pending on
             split.wait_same blocked);
         earliest = are_blocked (IsBlockedByLock (locks_held S)) [] before
-            (all_here numbers file (locks_held S) F alike.owners alike.descriptions alike.locks before grants.before on_before split.before_same
+            ((all_alike numbers file (locks_held S) F alike.owners alike.descriptions alike.locks before grants.before on_before split.before_same).1
             (each_blocked (IsHeldBack F) [] grants.before grants.is_next.earliest));
       }
 

@@ -25,26 +25,19 @@ module _ (numbers : Numbers) (file : ℕ) (locks : Locks) (F : FileState) (owner
       → IsBlockedByLock locks wait
   one_here wait pending on = blocked_here numbers file locks F owners descriptions locked wait pending (eqb-true wait.file file on)
 
-  -- all of the one list are blocked where all of the other are
-  pub all_there : (waits : List Wait) (pendings : List Pending) → AreOn file waits → AreSameWaits numbers waits pendings
-      → All (IsBlockedByLock locks) waits → All (IsHeldBack F) pendings
-  all_there [] [] on same blocked = All-nil (IsHeldBack F)
-  all_there [] (pending ∷ pendings) on same blocked = absurd same
-  all_there (wait ∷ waits) [] on same blocked = absurd same
-  all_there (wait ∷ waits) (pending ∷ pendings) on same blocked =
-      All-cons (IsHeldBack F) pending pendings
-      (one_there wait pending (All-head (λ (w : Wait). is_on_file file w ≡ true) wait waits on) same.0 (All-head (IsBlockedByLock locks) wait waits blocked))
-      (all_there waits pendings (All-tail (λ (w : Wait). is_on_file file w ≡ true) wait waits on) same.1 (All-tail (IsBlockedByLock locks) wait waits blocked))
-
-  pub all_here : (waits : List Wait) (pendings : List Pending) → AreOn file waits → AreSameWaits numbers waits pendings
-      → All (IsHeldBack F) pendings → All (IsBlockedByLock locks) waits
-  all_here [] [] on same blocked = All-nil (IsBlockedByLock locks)
-  all_here [] (pending ∷ pendings) on same blocked = absurd same
-  all_here (wait ∷ waits) [] on same blocked = absurd same
-  all_here (wait ∷ waits) (pending ∷ pendings) on same blocked =
-      All-cons (IsBlockedByLock locks) wait waits
-      (one_here wait pending (All-head (λ (w : Wait). is_on_file file w ≡ true) wait waits on) same.0 (All-head (IsHeldBack F) pending pendings blocked))
-      (all_here waits pendings (All-tail (λ (w : Wait). is_on_file file w ≡ true) wait waits on) same.1 (All-tail (IsHeldBack F) pending pendings blocked))
+  -- all of the one list are blocked exactly where all of the other are
+  pub all_alike : (waits : List Wait) (pendings : List Pending) → AreOn file waits → AreSameWaits numbers waits pendings
+      → (All (IsBlockedByLock locks) waits → All (IsHeldBack F) pendings) × (All (IsHeldBack F) pendings → All (IsBlockedByLock locks) waits)
+  all_alike [] [] on same = (λ blocked. All-nil (IsHeldBack F), λ blocked. All-nil (IsBlockedByLock locks))
+  all_alike [] (pending ∷ pendings) on same = absurd same
+  all_alike (wait ∷ waits) [] on same = absurd same
+  all_alike (wait ∷ waits) (pending ∷ pendings) on same =
+      let rest = all_alike waits pendings (All-tail (λ (w : Wait). is_on_file file w ≡ true) wait waits on) same.1 in
+      let first = All-head (λ (w : Wait). is_on_file file w ≡ true) wait waits on in
+      (λ blocked. All-cons (IsHeldBack F) pending pendings (one_there wait pending first same.0 (All-head (IsBlockedByLock locks) wait waits blocked))
+          (rest.0 (All-tail (IsBlockedByLock locks) wait waits blocked)),
+      λ blocked. All-cons (IsBlockedByLock locks) wait waits (one_here wait pending first same.0 (All-head (IsHeldBack F) pending pendings blocked))
+          (rest.1 (All-tail (IsHeldBack F) pending pendings blocked)))
 
   -- the first that isn't blocked stands at one place in both
   pub same_next : (before : List Wait) (wait : Wait) (after : List Wait) (before' : List Pending) (pending : Pending) (after' : List Pending)

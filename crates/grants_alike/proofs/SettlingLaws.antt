@@ -15,7 +15,7 @@ use Rattle.lock_server.specs.Files.{FileState}
 use Rattle.lock_server.specs.Settling.{Settles as ServerSettles, IsHeldBack}
 use Rattle.grants_alike.specs.Alike.{Numbers, AreSameWaits, waits_on_file, AreAlike, AreAtOnePlace, AreSameGrants}
 use Rattle.grants_alike.proofs.WaitLemmas.{is_on_file, on_file_between, on_file_without, on_file_elsewhere, on_file_first, each_blocked, the_one_between, among_all, itself_among, one_place, places_still}
-use Rattle.grants_alike.proofs.NextLemmas.{AreOn, all_there, all_here, same_next}
+use Rattle.grants_alike.proofs.NextLemmas.{AreOn, all_alike, same_next}
 use Rattle.grants_alike.proofs.GrantLemmas.{alike_after, alike_elsewhere, alike_same}
 
 -- ---- which waits are blocked
@@ -27,15 +27,15 @@ are_on file waits = filter_passes (is_on_file file) waits
 pub blocked_there : (numbers : Numbers) (file : ℕ) (S : State) (F : FileState) → AreAlike numbers file S F → All (IsBlockedByLock (locks_held S)) S.waits
     → All (IsHeldBack F) F.waits
 blocked_there numbers file S F alike blocked =
-    all_there numbers file (locks_held S) F alike.owners alike.descriptions alike.locks (waits_on_file file S.waits) F.waits (are_on file S.waits) alike.waits
-    (All-filter (is_on_file file) (IsBlockedByLock (locks_held S)) S.waits blocked)
+    (all_alike numbers file (locks_held S) F alike.owners alike.descriptions alike.locks (waits_on_file file S.waits) F.waits (are_on file S.waits)
+    alike.waits).0 (All-filter (is_on_file file) (IsBlockedByLock (locks_held S)) S.waits blocked)
 
 -- where all of the file's are blocked, so are all of the manager's on it
 pub blocked_here : (numbers : Numbers) (file : ℕ) (S : State) (F : FileState) → AreAlike numbers file S F → All (IsHeldBack F) F.waits
     → All (IsBlockedByLock (locks_held S)) (waits_on_file file S.waits)
 blocked_here numbers file S F alike blocked =
-    all_here numbers file (locks_held S) F alike.owners alike.descriptions alike.locks (waits_on_file file S.waits) F.waits (are_on file S.waits) alike.waits
-    blocked
+    (all_alike numbers file (locks_held S) F alike.owners alike.descriptions alike.locks (waits_on_file file S.waits) F.waits (are_on file S.waits)
+    alike.waits).1 blocked
 
 module _ (numbers : Numbers) (file : ℕ) (S : State) (F : FileState) (before : List Wait) (wait : Wait) (after : List Wait)
     (alike : AreAlike numbers file S F) (next : IsNextBetween Held (locks_held S) S.waits before wait after) where

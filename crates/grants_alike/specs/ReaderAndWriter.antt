@@ -44,7 +44,7 @@ set_by_writer mode = record { file = 0; owner = Process 1; span = first_bytes; m
 abbrev pub shared_by_flock : FlockChange
 shared_by_flock = record { file = 0; description = 6; mode = Some Read }
 
--- process 2 waits with its request 3 for a read lock on bytes 5 to 14 of file 0
+-- process 2 waits, by its third request, for a read lock on bytes 5 to 14 of file 0
 abbrev pub reader : Wait
 reader = record { p = 2; n = 3; file = 0; family = Bytes; owner = Process 2; span = later_bytes; mode = Read }
 
@@ -52,7 +52,7 @@ reader = record { p = 2; n = 3; file = 0; family = Bytes; owner = Process 2; spa
 abbrev pub pending_reader : Pending
 pending_reader = record { ticket = 30; owner = 4; family = Bytes; span = later_bytes; mode = Read; detect = true }
 
--- process 3 waits with its request 1 to have file 0 alone by flock, through description 5
+-- process 3 waits, by its first request, to have file 0 alone by flock, through description 5
 abbrev pub flocker : Wait
 flocker = record { p = 3; n = 1; file = 0; family = Whole; owner = Description 5; span = whole_file; mode = Write }
 
