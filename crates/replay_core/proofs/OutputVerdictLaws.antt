@@ -9,6 +9,7 @@ use Rattle.fd_table.specs.declared.Limits.TheVariants.{Small, Wide}
 use Rattle.wait_core.specs.declared.Policy.{Policy}
 use Rattle.wait_core.specs.declared.Policy.TheVariants.{Held, Queue}
 use Rattle.lock_manager.specs.declared.request.Rules.{Rules}
+use Rattle.script_core.specs.declared.header.Header.{Header}
 use Rattle.script_core.specs.declared.place.Stage.TheVariants as stages
 use Rattle.script_core.specs.declared.place.Place.{Place}
 use Rattle.script_core.specs.declared.place.JournalLine.TheVariants as lines
@@ -51,17 +52,25 @@ limits_in_line : (limits : Limits) → InLine (codes "limits " ++ limits_word li
 limits_in_line Small = tested_line (codes "limits small") refl
 limits_in_line Wide = tested_line (codes "limits wide") refl
 
-policy_line : (policy : Policy) → JournalLineGives opening_place (codes "policy " ++ policy_word policy) (Ok (lines.Policy policy))
-policy_line Held = (Ok (Some (lines.Policy Held)), inr (Held, refl, refl), refl)
-policy_line Queue = (Ok (Some (lines.Policy Queue)), inr (Queue, refl, refl), refl)
+-- what a header line says that says the policy, and the place behind it
+abbrev with_policy : Policy → Header
+with_policy policy = record { policy = Some policy; limits = None }
 
--- where a line said the policy
-abbrev place_with : Policy → Place
-place_with policy = record { policy = Some policy; limits = None; stage = stages.Header }
+abbrev behind : Header → Place
+behind header = record { header = header; stage = stages.Header }
 
-limits_line : (policy : Policy) (limits : Limits) → JournalLineGives (place_with policy) (codes "limits " ++ limits_word limits) (Ok (lines.Limits limits))
-limits_line policy Small = (Ok (Some (lines.Limits Small)), inr (Small, refl, refl), refl)
-limits_line policy Wide = (Ok (Some (lines.Limits Wide)), inr (Wide, refl, refl), refl)
+policy_line : (policy : Policy) → JournalLineGives opening_place (codes "policy " ++ policy_word policy) (Ok (lines.Header (with_policy policy)))
+policy_line Held = (Ok (Some (lines.Header (with_policy Held))), inr (Held, refl, refl), refl)
+policy_line Queue = (Ok (Some (lines.Header (with_policy Queue))), inr (Queue, refl, refl), refl)
+
+-- what both header lines say
+abbrev with_both : Policy → Limits → Header
+with_both policy limits = record { policy = Some policy; limits = Some limits }
+
+limits_line : (policy : Policy) (limits : Limits)
+    → JournalLineGives (behind (with_policy policy)) (codes "limits " ++ limits_word limits) (Ok (lines.Header (with_both policy limits)))
+limits_line policy Small = (Ok (Some (lines.Header (with_both policy Small))), inr (Small, refl, refl), refl)
+limits_line policy Wide = (Ok (Some (lines.Header (with_both policy Wide))), inr (Wide, refl, refl), refl)
 
 headed_lines : (policy : Policy) (limits : Limits) (text : List ℕ)
     → lines_of (header_lines (record { policy = policy; limits = limits }) ++ text)
@@ -86,11 +95,11 @@ outputs_judged outputs short = record {
   plain = λ bytes text output plain. judged text (plain_short text (short bytes text output)) (outputs bytes text output 1 opening_place tt (sym plain));
   headed = λ bytes text output.
       let rules = output.script.rules in
-      let behind : Place = record { policy = Some rules.policy; limits = Some rules.limits; stage = stages.Header } in
+      let all = with_both rules.policy rules.limits in
       judged (header_lines rules ++ text) (headed_short rules text (short bytes text output))
       (subst (λ (l : List (List ℕ)). JournalGives 1 journal_start l journals.Legal) (sym (headed_lines rules.policy rules.limits text)) (
-        Ok (lines.Policy rules.policy),
+        Ok (lines.Header (with_policy rules.policy)),
         policy_line rules.policy,
-        inl (tt, (Ok (lines.Limits rules.limits), limits_line rules.policy rules.limits, inl (tt, outputs bytes text output 3 behind tt refl))),
+        inl (tt, (Ok (lines.Header all), limits_line rules.policy rules.limits, inl (tt, outputs bytes text output 3 (behind all) tt refl))),
       ));
 }

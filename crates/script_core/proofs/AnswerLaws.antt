@@ -116,8 +116,7 @@ one_left one place entries texts a b h k = search (rules, one_report, no_more_le
 
 pub one_told : LocksHaveOneReport → StepHasOneOutcome → OneIsTold
 one_told report step reading lines.Skipped a b h k = absurd h
-one_told report step reading (lines.Policy policy) a b h k = absurd h
-one_told report step reading (lines.Limits limits) a b h k = absurd h
+one_told report step reading (lines.Header header) a b h k = absurd h
 one_told report step reading (lines.Entry event) a b h k =
     h.2 ∙ one_expected step (rules_at reading.place) (processes_at reading.place) reading.entries event h.0 k.0 h.1 k.1 ∙ sym k.2
 one_told report step reading lines.Report a b h k =

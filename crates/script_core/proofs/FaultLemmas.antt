@@ -13,8 +13,9 @@ use Rattle.script_core.specs.declared.line.Line.TheVariants as lines
 use Rattle.script_core.specs.declared.script.Cause.{Cause}
 use Rattle.script_core.specs.declared.script.Cause.TheVariants.{Word, Count, Memory, Tag}
 use Rattle.script_core.specs.Arguments.{Argument, ErrorWord, cause_of, Spells, IsFirstBad, AreRefused, Command, command_named, has_count}
-use Rattle.script_core.specs.Reading.{Reading, limits_of, is_comment, says_policy, says_limits, PolicyGives, LimitsGive, ArgumentsGive, CommandGives, RequestGives, ArrivalGives, ProcessGives, WordsGive, LineGives, IsOfScript}
+use Rattle.script_core.specs.Reading.{Reading, limits_of, is_comment, is_empty, ArgumentsGive, CommandGives, RequestGives, ArrivalGives, ProcessGives, WordsGive, LineGives, IsOfScript}
 use Rattle.script_core.specs.EntryReading.{TagGives, RequestIsTaken, TakenGives, ReplyWordsGive, WaitGives, ToldGives, NoteGives}
+use Rattle.script_core.proofs.FirstWordsLemmas.{header_cases}
 use Rattle.script_core.proofs.HeaderLemmas.{MatchBool-join}
 
 -- not refused for want of memory
@@ -39,14 +40,6 @@ of_count cause is memory e = absurd (let other : Count ≡ Memory memory = sym i
 
 pub of_refused : (arguments : List Argument) (words : List (List ℕ)) (cause : Cause) → AreRefused arguments words cause → IsOfScript cause
 of_refused arguments words cause refused = grind (arith, common_steps, MatchBool-join, of_first_bad, of_count)
-
-of_policy : (words : List (List ℕ)) (result : Result Line Cause) → PolicyGives words result → IsSaid result
-unfolding IsSaid
-of_policy words result h = grind (arith, common_steps, said_by, of_refused)
-
-of_limits : (words : List (List ℕ)) (result : Result Line Cause) → LimitsGive words result → IsSaid result
-unfolding IsSaid
-of_limits words result h = grind (arith, common_steps, said_by, of_refused)
 
 of_arguments : (limits : Limits) (words : List (List ℕ)) (command : Command) (arguments : List (List ℕ)) (result : Result Request Cause)
     → ArgumentsGive limits words command arguments result → IsSaid result
@@ -78,8 +71,9 @@ unfolding IsSaid
 of_words reading [] result is = said_by (Ok lines.Skipped) result tt is
 of_words reading (first ∷ rest) result gives =
     MatchBool-join (is_comment first) _ _ (IsSaid result) (said_by (Ok lines.Skipped) result tt)
-    (MatchBool-join (says_policy reading first) _ _ (IsSaid result) (of_policy rest result)
-    (MatchBool-join (says_limits reading first) _ _ (IsSaid result) (of_limits rest result) (of_process (limits_of reading) first rest result)))
+    (header_cases reading.header (is_empty reading.arrivals) lines.Header first rest _ (IsSaid result) result
+    (λ argument cause refused is. said_by (Err cause) result (of_refused (argument ∷ []) rest cause refused) is)
+    (λ more top is. said_by (Ok (lines.Header more)) result tt is) (of_process (limits_of reading) first rest result))
     gives
 
 of_line : (reading : Reading) (line : List ℕ) (result : Result Line Cause) → LineGives reading line result → IsSaid result

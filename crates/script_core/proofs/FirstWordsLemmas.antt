@@ -1,33 +1,59 @@
--- A line's first words: what they say, the whole line says; for `Reader::parse_text`.
+-- A line's first words: what they say, the whole line says; for `parse_text` and `Place::parse_head`.
 use Rattle.std.proofs.lemmas.Grind.{common_steps}
-use Rattle.std.proofs.Common.{◌≡◌, ℕ, ◌+◌, ◌<◌, ◌≤◌, Bool, false, Option, IfSome, MatchOption, Result, Err, List, [], ◌∷◌, length, take, find, subst, inl, inr, arith, ⊎_elim, MatchBool, bytes_eq}
+use Rattle.std.proofs.Common.{◌≡◌, ℕ, ◌+◌, ◌<◌, ◌≤◌, Bool, true, false, Option, Some, None, IfSome, MatchOption, MatchResult, Result, Ok, Err, List, [], ◌∷◌, length, take, find, subst, inl, inr, arith, ⊎_elim, MatchBool, bytes_eq}
 use Rattle.std.specs.List.{AllByRecursion as Each}
 use Rattle.std.proofs.lemmas.Bool.{cases_lt}
 use Rattle.std.proofs.lemmas.List.{length-take-le, take_all}
 use Rattle.fd_table.specs.declared.Limits.{Limits}
 use Rattle.lock_manager.specs.declared.request.Request.{Request}
+use Rattle.script_core.specs.declared.header.Header.{Header}
 use Rattle.script_core.specs.declared.line.Line.{Line}
+use Rattle.script_core.specs.declared.line.Line.TheVariants as lines
 use Rattle.script_core.specs.declared.script.Cause.{Cause}
 use Rattle.script_core.specs.declared.script.Cause.TheVariants.{Word}
-use Rattle.script_core.specs.Arguments.{Argument, Command, AreRefused, commands, command_named, has_count}
-use Rattle.script_core.specs.Reading.{Reading, PolicyGives, LimitsGive, CommandGives, RequestGives, ProcessGives, WordsGive, is_comment, says_policy, says_limits, limits_of}
+use Rattle.script_core.specs.Arguments.{Argument, PolicyWord, LimitsWord, Command, AreRefused, commands, command_named, has_count}
+use Rattle.script_core.specs.HeaderText.{policy_word, limits_word}
+use Rattle.script_core.specs.HeaderReading.{ValueGives, HeaderGives, says_policy, says_limits}
+use Rattle.script_core.specs.Reading.{Reading, CommandGives, RequestGives, ProcessGives, WordsGive, AreSkipped, is_comment, is_empty, limits_of}
 
 -- one of two facts for another
 pub MatchBool-map : (b : Bool) (P Q P' Q' : Type 0) → (P → P') → (Q → Q') → MatchBool b P Q → MatchBool b P' Q'
 MatchBool-map b P Q P' Q' f g h = grind (arith, common_steps)
 
 -- of words that are too many for a header line, others that are say the same
-pub many_refused : (argument : Argument) (words others : List (List ℕ)) (cause : Cause) → 1 < length words → 1 < length others
+many_refused : (argument : Argument) (words others : List (List ℕ)) (cause : Cause) → 1 < length words → 1 < length others
     → AreRefused (argument ∷ []) words cause → AreRefused (argument ∷ []) others cause
 many_refused argument words others cause many more refused = grind (arith, common_steps)
 
-many_policy : (words others : List (List ℕ)) (result : Result Line Cause) → 1 < length words → 1 < length others
-    → PolicyGives words result → PolicyGives others result
-many_policy words others result many more h3 = grind (arith, common_steps, many_refused)
+many_values : {A B : Type 0} (argument : Argument) (word : A → List ℕ) (said : A → B) (words others : List (List ℕ)) (result : Result B Cause)
+    → 1 < length words → 1 < length others → ValueGives argument word said words result → ValueGives argument word said others result
+many_values argument word said words others result many more h3 = grind (arith, common_steps, many_refused)
 
-many_limits : (words others : List (List ℕ)) (result : Result Line Cause) → 1 < length words → 1 < length others
-    → LimitsGive words result → LimitsGive others result
-many_limits words others result many more h3 = grind (arith, common_steps, many_refused)
+-- where that passes from another line to one with others
+pub many_header : {B : Type 0} (header : Header) (at_top : Bool) (said : Header → B) (first : List ℕ) (words others : List (List ℕ)) (P Q : Type 0)
+    → (result : Result B Cause) → 1 < length words → 1 < length others → (P → Q)
+    → HeaderGives header at_top said first words P result → HeaderGives header at_top said first others Q result
+many_header header at_top said first words others P Q result many more f given =
+    MatchBool-map (says_policy header at_top first) _ _ _ _
+    (many_values PolicyWord policy_word (λ policy. said (record header { policy = Some policy })) words others result many more)
+    (MatchBool-map (says_limits header at_top first) _ _ _ _
+    (many_values LimitsWord limits_word (λ limits. said (record header { limits = Some limits })) words others result many more) f) given
+
+-- what comes of words that were tried as a header line: what the header lines say then, what holds of another line, or a refusal
+abbrev ComesOf : {B : Type 0} → (Header → B) → Type 0 → Result B Cause → Result (Option Header) Cause → Type 0
+ComesOf {B} said Other result tried = MatchResult tried (λ found. MatchOption found Other (λ header. result ≡ Ok (said header))) (λ cause. result ≡ Err cause)
+
+-- so it is as the header lines give
+pub header_gives : {B : Type 0} (header : Header) (at_top : Bool) (said : Header → B) (first : List ℕ) (rest : List (List ℕ)) (Other : Type 0)
+    → (tried : Result (Option Header) Cause) (result : Result B Cause) → HeaderGives header at_top (λ more. Some more) first rest (tried ≡ Ok None) tried
+    → ComesOf said Other result tried → HeaderGives header at_top said first rest Other result
+header_gives header at_top said first rest Other tried result given comes = grind (arith, common_steps)
+
+-- what is so where the words are refused, are a header line, or are another line, is so
+pub header_cases : {B : Type 0} (header : Header) (at_top : Bool) (said : Header → B) (first : List ℕ) (rest : List (List ℕ)) (P R : Type 0)
+    → (result : Result B Cause) → ((argument : Argument) (cause : Cause) → AreRefused (argument ∷ []) rest cause → result ≡ Err cause → R)
+    → ((more : Header) → at_top ≡ true → result ≡ Ok (said more) → R) → (P → R) → HeaderGives header at_top said first rest P result → R
+header_cases header at_top said first rest P R result refused more other given = grind (arith, common_steps)
 
 -- the command has six arguments at most
 abbrev HasFew : Command → Type 0
@@ -69,10 +95,13 @@ many_words : (reading : Reading) (first name : List ℕ) (arguments others : Lis
     → WordsGive reading (first ∷ name ∷ arguments) result → WordsGive reading (first ∷ name ∷ others) result
 many_words reading first name arguments others result many more given =
     MatchBool-map (is_comment first) _ _ _ _ (λ skipped. skipped)
-    (MatchBool-map (says_policy reading first) _ _ _ _ (many_policy (name ∷ arguments) (name ∷ others) result (omega arith) (omega arith))
-    (MatchBool-map (says_limits reading first) _ _ _ _ (many_limits (name ∷ arguments) (name ∷ others) result (omega arith) (omega arith))
-    (many_behind (limits_of reading) first name arguments others result many more)))
+    (many_header reading.header (is_empty reading.arrivals) lines.Header first (name ∷ arguments) (name ∷ others) _ _ result (omega arith) (omega arith)
+    (many_behind (limits_of reading) first name arguments others result many more))
     given
+
+-- a comment says nothing
+pub words_skipped : (reading : Reading) (words : List (List ℕ)) → AreSkipped words → WordsGive reading words (Ok lines.Skipped)
+words_skipped reading words are = grind (arith, common_steps)
 
 -- a line says what its first nine words say
 pub first_words_give : (reading : Reading) (words : List (List ℕ)) (result : Result Line Cause) → WordsGive reading (take 9 words) result

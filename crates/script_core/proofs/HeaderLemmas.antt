@@ -2,7 +2,7 @@
 use Rattle.std.proofs.lemmas.Bool.{or_parts}
 use Rattle.script_core.proofs.FirstWordsLemmas.{MatchBool-map}
 use Rattle.std.proofs.lemmas.Grind.{common_steps}
-use Rattle.std.proofs.Common.{◌≡◌, ℕ, ◌+◌, ◌<◌, ◌^◌, ◌⊎◌, Bool, true, false, List, [], ◌∷◌, ◌++◌, get_or, codes, decimal, None, Result, Ok, Err, is_ok, MatchBool, IfSome, slice_get, zero, suc, inl, inr, refl, sym, ap, subst, arith, lit<}
+use Rattle.std.proofs.Common.{◌≡◌, ℕ, ◌+◌, ◌<◌, ◌^◌, ◌⊎◌, Bool, true, false, List, [], ◌∷◌, ◌++◌, get_or, codes, decimal, Result, Ok, Err, is_ok, MatchBool, IfSome, slice_get, zero, suc, inl, inr, refl, sym, ap, subst, arith, lit<}
 use Rattle.std.specs.Bool.{IsFalse}
 use Rattle.std.specs.Str.{bytes_eq}
 use Rattle.fd_table.specs.declared.Limits.{Limits}
@@ -14,6 +14,7 @@ use Rattle.script_core.specs.declared.script.Cause.{Cause}
 use Rattle.script_core.specs.declared.script.ScriptFault.{ScriptFault}
 use Rattle.script_core.specs.Words.{lines_of, words_of}
 use Rattle.script_core.specs.ScriptText.{Meaning}
+use Rattle.script_core.specs.HeaderReading.{no_header}
 use Rattle.script_core.specs.Reading.{Reading, Reads, LinesGive, LineGives, WordsGive, ProcessGives, ArrivalGives, is_comment}
 use Rattle.script_core.specs.WithoutHeaders.{PlainReads, PlainLinesGive, PlainLineGives, PlainWordsGive, HeadersChangeNothingElse, is_header, plain_rules}
 use Rattle.script_core.proofs.NumberLemmas.{BeginsPlainly-decimal}
@@ -33,7 +34,7 @@ IsNoHeaderWord-decimal p small = (not_spelled p (codes "policy") small (lit< tt)
 
 -- nothing but these arrivals was read
 abbrev reading_of : List (ℕ × Request) → Reading
-reading_of arrivals = record { policy = None; limits = None; arrivals = arrivals }
+reading_of arrivals = record { header = no_header; arrivals = arrivals }
 
 -- the meaning of these arrivals, or the fault
 told : Result (List (ℕ × Request)) ScriptFault → Result Meaning ScriptFault
@@ -43,8 +44,7 @@ told (Err fault) = Err fault
 -- no header line
 IsPlain : Result Line Cause → Type 0
 IsPlain (Ok lines.Skipped) = Unit {0}
-IsPlain (Ok (lines.Policy policy)) = ⊥
-IsPlain (Ok (lines.Limits limits)) = ⊥
+IsPlain (Ok (lines.Header header)) = ⊥
 IsPlain (Ok (lines.Arrival p request)) = Unit {0}
 IsPlain (Err cause) = Unit {0}
 
@@ -120,8 +120,7 @@ unfolding told IsPlain
 lines_same number arrivals [] result same gives = ap told gives
 lines_same number arrivals (line ∷ rest) result same (Ok lines.Skipped, gives, more) =
     (Ok lines.Skipped, line_same arrivals line (Ok lines.Skipped) (inl refl) gives, lines_same (number + 1) arrivals rest result (same_rest number line rest result same) more)
-lines_same number arrivals (line ∷ rest) result same (Ok (lines.Policy policy), gives, more) = absurd (plain_line line (Ok (lines.Policy policy)) gives)
-lines_same number arrivals (line ∷ rest) result same (Ok (lines.Limits limits), gives, more) = absurd (plain_line line (Ok (lines.Limits limits)) gives)
+lines_same number arrivals (line ∷ rest) result same (Ok (lines.Header header), gives, more) = absurd (plain_line line (Ok (lines.Header header)) gives)
 lines_same number arrivals (line ∷ rest) result same (Ok (lines.Arrival p request), gives, more) = (
   Ok (lines.Arrival p request),
   line_same arrivals line (Ok (lines.Arrival p request)) (inl refl) gives,

@@ -12,36 +12,21 @@ use Rattle.script_core.specs.declared.place.Place.{Place}
 use Rattle.script_core.specs.declared.place.JournalLine.{JournalLine}
 use Rattle.script_core.specs.declared.place.JournalLine.TheVariants as lines
 use Rattle.script_core.specs.declared.script.Cause.{Cause}
-use Rattle.script_core.specs.HeaderText.{policy_word, limits_word}
-use Rattle.script_core.specs.Words.{words_of, begins_with_hash}
-use Rattle.script_core.specs.Arguments.{Argument, PolicyWord, LimitsWord, Spells}
-use Rattle.script_core.specs.Reading.{is_comment}
-use Rattle.script_core.specs.JournalReading.{ValueGives, OtherGives, HeadGives, BodyGives, TextGives, HasOneMeaning, JournalReading, JournalEnd, Faulty, Illegal, Legal, JournalGives, JournalsHaveOneEnd, MayGoOn, MayEnd, reading_behind, journal_says_policy, journal_says_limits, is_report_word}
-use Rattle.script_core.proofs.LineLemmas.{comment_word}
-use Rattle.script_core.proofs.FirstWordsLemmas.{MatchBool-map, many_refused}
-use Rattle.script_core.proofs.ReadingLemmas.{same_value, MatchBool-unique, AreRefused-unique, one_spelled, policy_in, policy_in-word, limits_in, limits_in-word}
+use Rattle.script_core.specs.Words.{words_of}
+use Rattle.script_core.specs.Reading.{AreSkipped, is_comment}
+use Rattle.script_core.specs.JournalReading.{OtherGives, HeadGives, BodyGives, TextGives, HasOneMeaning, JournalReading, JournalEnd, Faulty, Illegal, Legal, JournalGives, JournalsHaveOneEnd, MayGoOn, MayEnd, reading_behind, is_header, is_report_word}
+use Rattle.script_core.proofs.FirstWordsLemmas.{MatchBool-map, many_header}
+use Rattle.script_core.proofs.ReadingLemmas.{same_value, MatchBool-unique, HeaderGives-unique}
 use Rattle.script_core.proofs.EntryLemmas.{PiecesGive-unique}
-
--- of words that are too many for a header line, others that are say the same
-many_values : {A : Type 0} (argument : Argument) (word : A → List ℕ) (said : A
-    → JournalLine) (words others : List (List ℕ)) (result : Result (Option JournalLine) Cause)
-    → 1 < length words → 1 < length others → ValueGives argument word said words result → ValueGives argument word said others result
-many_values argument word said words others result many more h3 = grind (arith, common_steps, many_refused)
 
 -- the head of a line is that of its first nine words
 pub head_of_first : (place : Place) (words : List (List ℕ)) (result : Result (Option JournalLine) Cause) → HeadGives place (take 9 words) result
     → HeadGives place words result
-head_of_first place words result h = grind (arith, common_steps, MatchBool-map, many_values, length-take-le, take_all, cases_lt)
+head_of_first place words result h = grind (arith, common_steps, MatchBool-map, many_header, length-take-le, take_all, cases_lt)
 
 -- a comment says nothing
-pub head_of_comment : (place : Place) (line : List ℕ) → begins_with_hash line ≡ true → HeadGives place (words_of line) (Ok (Some lines.Skipped))
-head_of_comment place line is = grind (arith, common_steps, comment_word)
-
-ValueGives-unique : {A : Type 0} (argument : Argument) (word : A → List ℕ) (said : A → JournalLine) (read : List ℕ → A)
-    → ((value : A) → read (word value) ≡ value) → ((value : A) → Spells argument (word value))
-    → (words : List (List ℕ)) (a b : Result (Option JournalLine) Cause)
-    → ValueGives argument word said words a → ValueGives argument word said words b → a ≡ b
-ValueGives-unique argument word said read h h2 words a b h3 h4 = grind (arith, common_steps, AreRefused-unique, one_spelled)
+pub head_skipped : (place : Place) (words : List (List ℕ)) → AreSkipped words → HeadGives place words (Ok (Some lines.Skipped))
+head_skipped place words are = grind (arith, common_steps)
 
 OtherGives-unique : (stage : Stage) (a b : Result (Option JournalLine) Cause) → OtherGives stage a → OtherGives stage b → a ≡ b
 OtherGives-unique stage a b h h2 = grind (arith, common_steps)
@@ -50,11 +35,8 @@ HeadGives-unique : (place : Place) (words : List (List ℕ)) (a b : Result (Opti
 HeadGives-unique place [] a b first second = first ∙ sym second
 HeadGives-unique place (word ∷ rest) a b first second =
     MatchBool-unique (λ r. r ≡ Ok (Some lines.Skipped)) _ (is_comment word) (same_value (Ok (Some lines.Skipped)))
-    (MatchBool-unique (ValueGives PolicyWord policy_word (λ policy. lines.Policy policy) rest) _ (journal_says_policy place word)
-    (ValueGives-unique PolicyWord policy_word (λ policy. lines.Policy policy) policy_in policy_in-word (λ policy. (policy, refl)) rest)
-    (MatchBool-unique (ValueGives LimitsWord limits_word (λ limits. lines.Limits limits) rest) _ (journal_says_limits place word)
-    (ValueGives-unique LimitsWord limits_word (λ limits. lines.Limits limits) limits_in limits_in-word (λ limits. (limits, refl)) rest)
-    (MatchBool-unique (λ r. r ≡ Ok (Some lines.Report)) (OtherGives place.stage) (is_report_word word) (same_value (Ok (Some lines.Report))) (OtherGives-unique place.stage))))
+    (HeaderGives-unique place.header (is_header place.stage) (λ header. Some (lines.Header header)) word rest _
+    (MatchBool-unique (λ r. r ≡ Ok (Some lines.Report)) (OtherGives place.stage) (is_report_word word) (same_value (Ok (Some lines.Report))) (OtherGives-unique place.stage)))
     a b first second
 
 -- what comes of the pieces of a line

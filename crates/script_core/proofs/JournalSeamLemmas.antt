@@ -2,13 +2,13 @@
 use Rattle.script_core.proofs.JournalReportLemmas.{one_report, AreLeft-first, AreLeft-more, front_more, no_front, due_is, nothing_due, ends_whole, first_due-none}
 use Rattle.std.proofs.Common.{append-nil, rules, arith, ◌≡◌, ◌≢◌, ℕ, true, false, List, [], ◌∷◌, ◌++◌, All, Option, Some, None, MatchOption, Result, Ok, Err, inr, refl, sym, ap, ap₂, ◌∙◌, subst, is_some}
 use Rattle.std.proofs.lemmas.Grind.{common_steps}
-use Rattle.fd_table.specs.declared.Limits.{Limits}
 use Rattle.lock_book.specs.OneReport.{LocksHaveOneReport}
 use Rattle.lock_manager.specs.declared.request.Rules.{Rules}
 use Rattle.lock_manager.specs.State.{State}
 use Rattle.session_core.specs.Checking.{HasAccepted}
 use Rattle.session_core.specs.Event.{Event}
 use Rattle.session_core.specs.Runs.{IsRun}
+use Rattle.script_core.specs.declared.header.Header.{Header}
 use Rattle.script_core.specs.declared.place.Stage.{Stage}
 use Rattle.script_core.specs.declared.place.Stage.TheVariants as stages
 use Rattle.script_core.specs.declared.place.Place.{Place}
@@ -35,11 +35,11 @@ unfolding place_of is_spent HasChecked HasReported
 entry_taken old new reading line event read before accepts placed illegal report = search (rules)
 
 -- a header line was taken down
-pub limits_taken : (old new : JournalReader) (reading : JournalReading) (line : List ℕ) (limits : Limits) (result : Result Unit JournalFault)
-    → HasRead old reading → reading.place.stage ≡ stages.Header → IsAtOpening old new (record old.place { limits = Some limits }) result
-    → TakesSaid new reading line (lines.Limits limits) result
+pub header_taken : (old new : JournalReader) (reading : JournalReading) (line : List ℕ) (header : Header) (result : Result Unit JournalFault)
+    → HasRead old reading → reading.place.stage ≡ stages.Header → IsAtOpening old new (record old.place { header = header }) result
+    → TakesSaid new reading line (lines.Header header) result
 unfolding place_of
-limits_taken old new reading line limits result h h2 h3 = grind (arith, common_steps)
+header_taken old new reading line header result h h2 h3 = grind (arith, common_steps)
 
 -- what a report that is begun is expected to have
 pub expected_due : (reader : JournalReader) (left : List ReportLine) (due : Option ReportLine) → reader.illegal ≡ None → reader.report ≡ Some left

@@ -14,8 +14,7 @@ use Rattle.script_core.specs.JournalReading.{HeadGives, JournalLineGives, IsBefo
 -- a line that says this may stand there: a header line before all others, and an entry before the report
 abbrev pub Fits : Stage → JournalLine → Type 0
 Fits stage lines.Skipped = ⊤
-Fits stage (lines.Policy policy) = stage ≡ stages.Header
-Fits stage (lines.Limits limits) = stage ≡ stages.Header
+Fits stage (lines.Header header) = stage ≡ stages.Header
 Fits stage (lines.Entry event) = IsBeforeReport stage
 Fits stage lines.Report = ⊤
 

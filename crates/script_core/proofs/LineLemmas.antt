@@ -1,12 +1,11 @@
--- The bytes of a line: for `Reader::parse_text` and `printable_text`.
+-- The bytes of a line: for `printable_text` and `said_words`.
 use Rattle.std.proofs.lemmas.Grind.{common_steps}
-use Rattle.std.proofs.Common.{◌≡◌, ℕ, Bool, true, false, Ok, List, [], ◌∷◌, length, filter, refl, arith, ne_eqb, ◌==◌, if◌then◌else◌, not}
+use Rattle.std.proofs.Common.{◌≡◌, ℕ, Bool, true, false, List, [], ◌∷◌, length, filter, refl, arith, ne_eqb, ◌==◌, if◌then◌else◌, not}
 use Rattle.std.specs.List.{slice_split, onto_first}
 use Rattle.std.specs.Str.{IsUtf8, IsAscii}
 use Rattle.std.proofs.lemmas.Str.{IsUtf8-from_ascii}
-use Rattle.script_core.specs.declared.line.Line.TheVariants.{Skipped}
 use Rattle.script_core.specs.Words.{begins_with_hash, is_printable, words_of}
-use Rattle.script_core.specs.Reading.{Reading, WordsGive, is_comment}
+use Rattle.script_core.specs.Reading.{AreSkipped, is_comment}
 
 printable_ascii : (line : List ℕ) → is_printable line ≡ true → IsAscii line
 printable_ascii line h h2 = grind (arith, common_steps)
@@ -23,7 +22,7 @@ starts_comment byte (part ∷ parts) is =
     (byte ∷ part, filter (λ word. not (length word == 0)) parts, rw some refl, is)
 
 -- where the first byte that isn't a space is `#`, the first word begins with it
-pub comment_word : (line : List ℕ) → begins_with_hash line ≡ true
+comment_word : (line : List ℕ) → begins_with_hash line ≡ true
     → (first : List ℕ) × (rest : List (List ℕ)) × (words_of line ≡ first ∷ rest) × (is_comment first ≡ true)
 comment_word [] is = cc
 comment_word (byte ∷ bytes) is =
@@ -38,5 +37,5 @@ comment_word (byte ∷ bytes) is =
     by_first (byte == 32) is
 
 -- and the line says nothing
-pub comment_skipped : (reading : Reading) (line : List ℕ) → begins_with_hash line ≡ true → WordsGive reading (words_of line) (Ok Skipped)
-comment_skipped reading line is = grind (arith, common_steps, comment_word)
+pub comment_skipped : (line : List ℕ) → begins_with_hash line ≡ true → AreSkipped (words_of line)
+comment_skipped line is = grind (arith, common_steps, comment_word)

@@ -19,6 +19,7 @@ use Rattle.script_core.specs.declared.report.ReportLine.TheVariants as report_li
 use Rattle.script_core.specs.declared.script.Cause.{Cause}
 use Rattle.script_core.specs.declared.script.Cause.TheVariants.{Byte, TooLong}
 use Rattle.script_core.specs.Words.{lines_of, is_printable}
+use Rattle.script_core.specs.HeaderReading.{rules_said}
 use Rattle.script_core.specs.EntryText.{entry_text, entry_line}
 use Rattle.script_core.specs.EntryReading.{entry_limit, IsWritableEvent}
 use Rattle.script_core.specs.ReportReading.{AreTextsOf, AreReportLines, MayHaveSent, lines_from, joined}
@@ -91,7 +92,7 @@ report_gives number place entries done (text ∷ texts) fits (reported, at, are)
 -- behind these entries, at each place with the same header lines, the lines are legal
 GivesBehind : Place → List Event → List (List ℕ) → Type 0
 GivesBehind place entries texts =
-    (number : ℕ) (behind : Place) → behind.policy ≡ place.policy → behind.limits ≡ place.limits
+    (number : ℕ) (behind : Place) → behind.header ≡ place.header
     → JournalGives number (record { place = behind; entries = entries; report = [] }) texts Legal
 
 entries_give : (number : ℕ) (reading : JournalReading) (events : List Event) (texts : List (List ℕ)) → IsBeforeReport reading.place.stage
@@ -99,7 +100,7 @@ entries_give : (number : ℕ) (reading : JournalReading) (events : List Event) (
     → GivesBehind reading.place (reading.entries ++ events) texts → JournalGives number reading (map entry_text events ++ texts) Legal
 unfolding GivesBehind
 entries_give number reading [] texts before none writable legal more =
-    let given = more number reading.place refl refl in
+    let given = more number reading.place refl in
     let own = subst (λ (l : List Event). JournalGives number (record { place = reading.place; entries = l; report = [] }) texts Legal) (append-nil reading.entries) given in
     subst (λ (l : List (List ℕ)). JournalGives number (record { place = reading.place; entries = reading.entries; report = l }) texts Legal) (sym none) own
 entries_give number reading (event ∷ events) texts before none writable legal more =
@@ -120,9 +121,6 @@ entries_give number reading (event ∷ events) texts before none writable legal 
 
 pub small_limit : (limits : Limits) → process_limit limits ≤ 64
 small_limit limits = grind (arith, common_steps)
-
-rules_behind : (place behind : Place) → behind.policy ≡ place.policy → behind.limits ≡ place.limits → rules_at behind ≡ rules_at place
-rules_behind place behind policy limits = grind (arith, common_steps)
 
 text_printable : (texts : List (List ℕ)) → Each IsReportText texts → Each InLine texts
 text_printable texts all = each_map IsReportText InLine texts (λ text is. in_line text is.printable) all
@@ -159,8 +157,8 @@ outputs_legal one bytes text output number place before same =
     (entries_give number (record { place = place; entries = []; report = [] }) journal texts before refl
     (subst (λ (r : Rules). All (IsWritableEvent r.limits) journal) rules (writable_output bytes text output))
     (S, subst (λ (r : Rules). IsRun r (process_limit r.limits) journal S) rules run)
-    (λ n behind policy own.
-    let at : script.rules ≡ rules_at behind = rules ∙ sym (rules_behind place behind policy own) in
+    (λ n behind same_header.
+    let at : script.rules ≡ rules_at behind = rules ∙ sym (ap rules_said same_header) in
     let is_at : IsReportAt behind journal reported = record {
       state = S;
       run = subst (λ (r : Rules). IsRun r (process_limit r.limits) journal S) at run;

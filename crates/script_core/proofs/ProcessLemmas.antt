@@ -1,5 +1,5 @@
 -- The arrivals of a script: each is of one of its processes, and is said by the words of its line; for `parse`.
-use Rattle.std.proofs.Common.{arith, ℕ, ◌≡◌, refl, sym, subst, Bool, true, List, [], ◌∷◌, Option, MatchOption, Result, Ok, Err, All, MatchBool, ◌+◌, ◌&&◌, is_none, bytes_eq, codes, decimal}
+use Rattle.std.proofs.Common.{arith, ℕ, ◌≡◌, refl, sym, subst, Bool, true, List, [], ◌∷◌, Option, MatchOption, Result, Ok, Err, All, MatchBool, ◌+◌, decimal}
 use Rattle.std.proofs.lemmas.Grind.{common_steps}
 use Rattle.std.proofs.lemmas.List.Elements.{All-push, All-nil, All-weaker}
 use Rattle.fd_table.specs.declared.Limits.{Limits}
@@ -10,9 +10,11 @@ use Rattle.script_core.specs.declared.script.Cause.{Cause}
 use Rattle.script_core.specs.declared.script.Cause.TheVariants.{Word}
 use Rattle.script_core.specs.declared.script.ScriptFault.{ScriptFault}
 use Rattle.script_core.specs.ScriptText.{Meaning, IsProcess, IsWritable, IsRequest}
-use Rattle.script_core.specs.Reading.{Reading, limits_of, meaning_of, reading_after, is_comment, is_empty, says_policy, says_limits, ArgumentsGive, CommandGives, RequestGives, ArrivalGives, PolicyGives, LimitsGive, ProcessGives, WordsGive, LineGives, LinesGive, Reads}
+use Rattle.script_core.specs.HeaderReading.{limits_said}
+use Rattle.script_core.specs.Reading.{Reading, limits_of, meaning_of, reading_after, is_comment, is_empty, ArgumentsGive, CommandGives, RequestGives, ArrivalGives, ProcessGives, WordsGive, LineGives, LinesGive, Reads}
 use Rattle.script_core.specs.Arguments.{Command, command_named}
 use Rattle.script_core.specs.Words.{words_of}
+use Rattle.script_core.proofs.FirstWordsLemmas.{header_cases}
 
 -- the arrival is of a process that the limits have, and its request is one that they have
 abbrev pub IsArrivalOf : Limits → ℕ × Request → Type 0
@@ -32,8 +34,7 @@ pub record SayArrival (limits : Limits) (words : List (List ℕ)) (p : ℕ) (req
 -- what the words of a line say keeps it so: header lines stand before all arrivals
 Keeps : Reading → List (List ℕ) → Result Line Cause → Type 0
 Keeps reading words (Ok lines.Skipped) = Unit {0}
-Keeps reading words (Ok (lines.Policy policy)) = reading.arrivals ≡ []
-Keeps reading words (Ok (lines.Limits limits)) = reading.arrivals ≡ []
+Keeps reading words (Ok (lines.Header header)) = reading.arrivals ≡ []
 Keeps reading words (Ok (lines.Arrival p request)) = SayArrival (limits_of reading) words p request
 Keeps reading words (Err cause) = Unit {0}
 
@@ -74,24 +75,8 @@ keeps_process : (reading : Reading) (first : List ℕ) (rest : List (List ℕ)) 
 unfolding Keeps
 keeps_process reading first rest result h = grind (arith, common_steps, keeps_arrival, keeps_by)
 
-keeps_policy : (reading : Reading) (words rest : List (List ℕ)) (result : Result Line Cause) → reading.arrivals ≡ [] → PolicyGives rest result
-    → Keeps reading words result
-unfolding Keeps
-keeps_policy reading words rest result none h2 = grind (arith, common_steps, keeps_by)
-
-keeps_limits : (reading : Reading) (words rest : List (List ℕ)) (result : Result Line Cause) → reading.arrivals ≡ [] → LimitsGive rest result
-    → Keeps reading words result
-unfolding Keeps
-keeps_limits reading words rest result none h2 = grind (arith, common_steps, keeps_by)
-
 empty_is : (arrivals : List (ℕ × Request)) → is_empty arrivals ≡ true → arrivals ≡ []
 empty_is arrivals e = grind (arith, common_steps)
-
-last_of_three : (a b c : Bool) → (a && (b && c)) ≡ true → c ≡ true
-last_of_three a b c h = grind (arith, common_steps)
-
-no_arrivals : (a b : Bool) (reading : Reading) → (a && (b && is_empty reading.arrivals)) ≡ true → reading.arrivals ≡ []
-no_arrivals a b reading says = grind (arith, common_steps, empty_is, last_of_three)
 
 keeps_words : (reading : Reading) (words : List (List ℕ)) (result : Result Line Cause) → WordsGive reading words result → Keeps reading words result
 unfolding Keeps
@@ -99,12 +84,9 @@ keeps_words reading [] result gives = keeps_by reading [] (Ok lines.Skipped) res
 keeps_words reading (first ∷ rest) result gives =
     let words = first ∷ rest in
     join_by (is_comment first) _ _ (Keeps reading words result) (λ e. keeps_by reading words (Ok lines.Skipped) result tt)
-    (join_by (says_policy reading first) _ _ (Keeps reading words result)
-    (λ e. keeps_policy reading words rest result (no_arrivals (bytes_eq first (codes "policy")) (is_none reading.policy) reading e))
-    (join_by (says_limits reading first) _ _ (Keeps reading words result)
-    (λ e. keeps_limits reading words rest result (no_arrivals (bytes_eq first (codes "limits")) (is_none reading.limits) reading e))
-    (keeps_process reading first rest result)))
-    gives
+    (header_cases reading.header (is_empty reading.arrivals) lines.Header first rest _ (Keeps reading words result) result
+    (λ argument cause refused is. keeps_by reading words (Err cause) result tt is)
+    (λ more top is. keeps_by reading words (Ok (lines.Header more)) result (empty_is reading.arrivals top) is) (keeps_process reading first rest result)) gives
 
 keeps_line : (reading : Reading) (line : List ℕ) (result : Result Line Cause) → LineGives reading line result → Keeps reading (words_of line) result
 unfolding Keeps
@@ -121,8 +103,7 @@ pub rules_kept : (reading : Reading) (line : List ℕ) (said : Line) → ¬ (rea
     → (meaning_of (reading_after reading said)).rules ≡ (meaning_of reading).rules
 unfolding Keeps
 rules_kept reading line lines.Skipped some gives = refl
-rules_kept reading line (lines.Policy policy) some gives = absurd (some (keeps_line reading line (Ok (lines.Policy policy)) gives))
-rules_kept reading line (lines.Limits limits) some gives = absurd (some (keeps_line reading line (Ok (lines.Limits limits)) gives))
+rules_kept reading line (lines.Header header) some gives = absurd (some (keeps_line reading line (Ok (lines.Header header)) gives))
 rules_kept reading line (lines.Arrival p request) some gives = refl
 
 -- no arrivals are of processes under any limits
@@ -133,8 +114,7 @@ kept : (reading : Reading) (words : List (List ℕ)) (said : Line) → Keeps rea
     → AreOfLimits (reading_after reading said)
 unfolding Keeps
 kept reading words lines.Skipped is before = before
-kept reading words (lines.Policy policy) is before = before
-kept reading words (lines.Limits limits) is before = none_yet limits reading.arrivals is
+kept reading words (lines.Header header) is before = none_yet (limits_said header) reading.arrivals is
 kept reading words (lines.Arrival p request) is before = grind (arith, common_steps, All-push)
 
 -- a script that is accepted

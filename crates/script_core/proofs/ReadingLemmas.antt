@@ -1,4 +1,4 @@
--- A script has one reading: for `parse` and `read_named`.
+-- A script has one reading, and header lines say one thing: for `parse`, `read_named` and `JournalReader::next`.
 use Rattle.std.proofs.lemmas.Grind.{common_steps}
 use Rattle.std.proofs.Common.{rules, ◌≡◌, ℕ, ◌+◌, ◌<◌, ◌^◌, ◌⊎◌, Bool, true, false, cond, List, [], ◌∷◌, ◌++◌, length, drop, get_or, codes, ℤ, pos, FitsSigned, w64, MatchBool, MatchOption, MatchResult, Option, Some, None, unwrap_or, Result, Ok, Err, inl, inr, refl, sym, ap, ◌∙◌, subst, arith, nat_lt}
 use Rattle.std.specs.Fmt.{digits, signed_decimal}
@@ -26,16 +26,19 @@ use Rattle.range_core.specs.declared.Whence.{Whence}
 use Rattle.range_core.specs.declared.Whence.TheVariants.{Set, Cur, End}
 use Rattle.script_core.specs.declared.commands.CommandName.{CommandName}
 use Rattle.script_core.specs.declared.commands.CommandName.TheVariants as names
+use Rattle.script_core.specs.declared.header.Header.{Header}
 use Rattle.script_core.specs.declared.line.Line.{Line}
+use Rattle.script_core.specs.declared.line.Line.TheVariants as lines
 use Rattle.script_core.specs.declared.script.Cause.{Cause}
 use Rattle.script_core.specs.declared.script.Cause.TheVariants.{Byte, Word, Count, TooLong}
 use Rattle.script_core.specs.declared.script.ScriptFault.{ScriptFault}
 use Rattle.script_core.specs.Words.{words_of, is_printable, line_limit}
 use Rattle.script_core.specs.HeaderText.{policy_word, limits_word}
 use Rattle.script_core.specs.RequestText.{access_word, kind_word, whence_word, op_word, nb_words, visit_words, command_word, lock_command_word, pid_words, lock_words, request_words}
-use Rattle.script_core.specs.Arguments.{Argument, FileNumber, SectionNumber, DescriptorNumber, AnyNumber, ProcessNumber, AccessWord, OpWord, NbWord, SharedWord, Spells, IsFirstBad, AreRefused, lock_arguments, lock_command, Command, command_named, has_count}
+use Rattle.script_core.specs.Arguments.{Argument, FileNumber, SectionNumber, DescriptorNumber, AnyNumber, ProcessNumber, AccessWord, OpWord, NbWord, SharedWord, PolicyWord, LimitsWord, Spells, IsFirstBad, AreRefused, lock_arguments, lock_command, Command, command_named, has_count}
 use Rattle.script_core.specs.ScriptText.{Meaning, HasZeroPid, Says, IsRequest, IsProcess, IsWritable}
-use Rattle.script_core.specs.Reading.{Reading, ArgumentsGive, CommandGives, RequestGives, ArrivalGives, ProcessGives, PolicyGives, LimitsGive, WordsGive, LineGives, LinesGive, HasOneReading, says_policy, says_limits, limits_of, meaning_of, reading_after, start}
+use Rattle.script_core.specs.HeaderReading.{ValueGives, HeaderGives, says_policy, says_limits}
+use Rattle.script_core.specs.Reading.{Reading, ArgumentsGive, CommandGives, RequestGives, ArrivalGives, ProcessGives, WordsGive, LineGives, LinesGive, HasOneReading, is_comment, is_empty, limits_of, meaning_of, reading_after, start}
 use Rattle.script_core.proofs.NumberLemmas.{number_in, number_in-zero, digits_value-spelled, number_in-spelled}
 
 pub same_value : {X : Type 0} (value a b : X) → a ≡ value → b ≡ value → a ≡ b
@@ -379,52 +382,49 @@ pub AreRefused-unique : (arguments : List Argument) (words : List (List ℕ)) (a
 AreRefused-unique arguments words a b first second = grind (arith, common_steps, MatchBool-unique, IsFirstBad-unique, same_value)
 
 -- one word that spells its argument isn't refused
-pub one_spelled : (argument : Argument) (word : List ℕ) (words : List (List ℕ)) (cause : Cause) → words ≡ word ∷ [] → Spells argument word
+one_spelled : (argument : Argument) (word : List ℕ) (words : List (List ℕ)) (cause : Cause) → words ≡ word ∷ [] → Spells argument word
     → AreRefused (argument ∷ []) words cause → ⊥
 unfolding AllSpell
 one_spelled argument word words cause are spells refused = grind (arith, common_steps, not_bad)
 
 -- the word of a policy, or of limits, read back
-pub policy_in : List ℕ → Policy
+policy_in : List ℕ → Policy
 policy_in word = cond (bytes_eq word (codes "held")) Held Queue
 
-pub limits_in : List ℕ → Limits
+limits_in : List ℕ → Limits
 limits_in word = cond (bytes_eq word (codes "small")) Small Wide
 
-pub policy_in-word : (policy : Policy) → policy_in (policy_word policy) ≡ policy
+policy_in-word : (policy : Policy) → policy_in (policy_word policy) ≡ policy
 unfolding policy_in
 policy_in-word policy = grind (arith, common_steps)
 
-pub limits_in-word : (limits : Limits) → limits_in (limits_word limits) ≡ limits
+limits_in-word : (limits : Limits) → limits_in (limits_word limits) ≡ limits
 unfolding limits_in
 limits_in-word limits = grind (arith, common_steps)
 
-PolicyGives-unique : (words : List (List ℕ)) (a b : Result Line Cause) → PolicyGives words a → PolicyGives words b → a ≡ b
-PolicyGives-unique words a b h h2 = search (rules, AreRefused-unique, one_spelled, policy_in, policy_in-word)
+ValueGives-unique : {A B : Type 0} (argument : Argument) (word : A → List ℕ) (says : A → B) (read : List ℕ → A)
+    → ((value : A) → read (word value) ≡ value) → ((value : A) → Spells argument (word value))
+    → (words : List (List ℕ)) (a b : Result B Cause) → ValueGives argument word says words a → ValueGives argument word says words b → a ≡ b
+ValueGives-unique argument word says read h h2 words a b h3 h4 = grind (arith, common_steps, AreRefused-unique, one_spelled)
 
-LimitsGive-unique : (words : List (List ℕ)) (a b : Result Line Cause) → LimitsGive words a → LimitsGive words b → a ≡ b
-LimitsGive-unique words a b h h2 = search (rules, AreRefused-unique, one_spelled, limits_in, limits_in-word)
-
--- a first word that is no comment and says no policy, with what follows it
-abbrev LaterGives : Reading → List ℕ → List (List ℕ) → Result Line Cause → Type 0
-LaterGives reading first rest result = MatchBool (says_limits reading first) (LimitsGive rest result) (ProcessGives (limits_of reading) first rest result)
-
--- a first word that is no comment, with what follows it
-abbrev StartGives : Reading → List ℕ → List (List ℕ) → Result Line Cause → Type 0
-StartGives reading first rest result = MatchBool (says_policy reading first) (PolicyGives rest result) (LaterGives reading first rest result)
-
-LaterGives-unique : (reading : Reading) (word : List ℕ) (rest : List (List ℕ)) (a b : Result Line Cause) → LaterGives reading word rest a
-    → LaterGives reading word rest b → a ≡ b
-LaterGives-unique reading word rest a b first second =
-    MatchBool-unique (LimitsGive rest) (ProcessGives (limits_of reading) word rest) (says_limits reading word) (LimitsGive-unique rest) (ProcessGives-unique (limits_of reading) word rest) a b first second
-
-StartGives-unique : (reading : Reading) (word : List ℕ) (rest : List (List ℕ)) (a b : Result Line Cause) → StartGives reading word rest a
-    → StartGives reading word rest b → a ≡ b
-StartGives-unique reading word rest a b first second =
-    MatchBool-unique (PolicyGives rest) (LaterGives reading word rest) (says_policy reading word) (PolicyGives-unique rest) (LaterGives-unique reading word rest) a b first second
+-- a header line says one thing, and so does any line where others do
+pub HeaderGives-unique : {B : Type 0} (header : Header) (at_top : Bool) (says : Header → B) (word : List ℕ) (rest : List (List ℕ)) (P : Result B Cause → Type 0)
+    → ((a b : Result B Cause) → P a → P b → a ≡ b) → (a b : Result B Cause)
+    → HeaderGives header at_top says word rest (P a) a → HeaderGives header at_top says word rest (P b) b → a ≡ b
+HeaderGives-unique {B} header at_top says word rest P one a b first second =
+    let by_policy : Policy → B = λ policy. says (record header { policy = Some policy }) in
+    let by_limits : Limits → B = λ limits. says (record header { limits = Some limits }) in
+    MatchBool-unique (ValueGives PolicyWord policy_word by_policy rest) _ (says_policy header at_top word)
+    (ValueGives-unique PolicyWord policy_word by_policy policy_in policy_in-word (λ policy. (policy, refl)) rest)
+    (MatchBool-unique (ValueGives LimitsWord limits_word by_limits rest) P (says_limits header at_top word)
+    (ValueGives-unique LimitsWord limits_word by_limits limits_in limits_in-word (λ limits. (limits, refl)) rest) one) a b first second
 
 WordsGive-unique : (reading : Reading) (words : List (List ℕ)) (a b : Result Line Cause) → WordsGive reading words a → WordsGive reading words b → a ≡ b
-WordsGive-unique reading words a b h h2 = search (rules, same_value, MatchBool-unique, StartGives-unique)
+WordsGive-unique reading [] a b first second = same_value (Ok lines.Skipped) a b first second
+WordsGive-unique reading (word ∷ rest) a b first second =
+    MatchBool-unique (λ r. r ≡ Ok lines.Skipped) _ (is_comment word) (same_value (Ok lines.Skipped))
+    (HeaderGives-unique reading.header (is_empty reading.arrivals) lines.Header word rest (ProcessGives (limits_of reading) word rest)
+    (ProcessGives-unique (limits_of reading) word rest)) a b first second
 
 LineGives-unique : (reading : Reading) (line : List ℕ) (a b : Result Line Cause) → LineGives reading line a → LineGives reading line b → a ≡ b
 LineGives-unique reading line a b first second =

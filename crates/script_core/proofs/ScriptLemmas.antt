@@ -12,7 +12,7 @@ use Rattle.script_core.specs.declared.line.Line.TheVariants as lines
 use Rattle.script_core.specs.declared.script.Cause.{Cause}
 use Rattle.script_core.specs.declared.script.Cause.TheVariants.{TooLong}
 use Rattle.script_core.specs.declared.script.ScriptFault.{ScriptFault}
-use Rattle.script_core.specs.declared.heading.Heading.{Heading}
+use Rattle.script_core.specs.declared.header.Header.{Header}
 use Rattle.script_core.specs.ScriptText.{Meaning}
 use Rattle.script_core.specs.Words.{without_empty_end, lines_of, script_limit}
 use Rattle.script_core.specs.Reading.{Reading, LineGives, LinesGive, IsArrival, ComesTo, IsAtHand, IsOfScript, Reads, reading_after, start}
@@ -59,12 +59,12 @@ reads_lines bytes result short given =
     subst (λ test. MatchBool test (result ≡ Err (record { line = 0; cause = TooLong })) (LinesGive 1 start (lines_of bytes) result)) (sym (le-ltb script_limit (length bytes) short)) given
 
 -- the fault of the next line is that of the script
-pub fault_next : (bytes rest more : List ℕ) (count : ℕ) (line : List ℕ) (heading : Heading) (arrivals : List (ℕ × Request)) (cause : Cause)
-    → IsReadUpTo bytes count heading arrivals rest → lines_of rest ≡ line ∷ lines_of more → LineGives (reading_of heading arrivals) line (Err cause)
+pub fault_next : (bytes rest more : List ℕ) (count : ℕ) (line : List ℕ) (header : Header) (at_top : Bool) (arrivals : List (ℕ × Request)) (cause : Cause)
+    → IsReadUpTo bytes count header at_top arrivals rest → lines_of rest ≡ line ∷ lines_of more → LineGives (reading_of header arrivals) line (Err cause)
     → Reads bytes (Err (record { line = count + 1; cause = cause })) × IsOfScript cause
-fault_next bytes rest more count line heading arrivals cause before cut gives = (
+fault_next bytes rest more count line header at_top arrivals cause before cut gives = (
   reads_lines bytes _ before.fits (before.goes_on _ (rw cut (Err cause, gives, refl))),
-  never_memory (reading_of heading arrivals) line cause gives,
+  never_memory (reading_of header arrivals) line cause gives,
 )
 
 -- the line at hand is one of those that there are
@@ -75,10 +75,10 @@ comes_within number reading (line ∷ lines) at_hand (said, gives, inr later) =
     let rest = comes_within (number + 1) (reading_after reading said) lines at_hand later in omega (arith, rest)
 
 -- an arrival stands in the line at hand
-pub at_hand_next : (bytes rest more : List ℕ) (count : ℕ) (line : List ℕ) (heading : Heading) (arrivals : List (ℕ × Request)) (said : Line)
-    → IsReadUpTo bytes count heading arrivals rest → lines_of rest ≡ line ∷ lines_of more → LineGives (reading_of heading arrivals) line (Ok said)
+pub at_hand_next : (bytes rest more : List ℕ) (count : ℕ) (line : List ℕ) (header : Header) (at_top : Bool) (arrivals : List (ℕ × Request)) (said : Line)
+    → IsReadUpTo bytes count header at_top arrivals rest → lines_of rest ≡ line ∷ lines_of more → LineGives (reading_of header arrivals) line (Ok said)
     → IsArrival said → IsAtHand bytes (count + 1)
-at_hand_next bytes rest more count line heading arrivals said before cut gives arrival =
+at_hand_next bytes rest more count line header at_top arrivals said before cut gives arrival =
     let read = before.comes (count + 1) (rw cut (said, gives, inl (refl, arrival))) in
     let within = comes_within 1 start (lines_of bytes) (count + 1) read in
     record { fits = before.fits; read = read; within = omega (arith, within) }
@@ -87,8 +87,7 @@ at_hand_next bytes rest more count line heading arrivals said before cut gives a
 pub some_arrival : (said : Line) (P : ℕ × Request → Type 0) → ((p : ℕ) (request : Request) → said ≡ lines.Arrival p request → P (p, request))
     → IfSome (arrival_of said) P
 some_arrival lines.Skipped P each = tt
-some_arrival (lines.Policy policy) P each = tt
-some_arrival (lines.Limits limits) P each = tt
+some_arrival (lines.Header header) P each = tt
 some_arrival (lines.Arrival p request) P each = each p request refl
 
 -- there is something where an arrival stands behind others

@@ -1,10 +1,8 @@
 -- How a journal is read: line by line, up to the first fault or the first line with which it is no front of a run (this project's choice).
-use Rattle.std.specs.Prelude.{◌≡◌, ℕ, ◌+◌, ◌||◌, ◌&&◌, ⊤, ◌⊎◌, Bool, true, false, nat_lt, is_none, MatchBool, MatchResult, Option, Some, None, unwrap_or, Result, Ok, Err, List, [], ◌∷◌, ◌++◌, All, length, map, codes, bytes_eq}
+use Rattle.std.specs.Prelude.{◌≡◌, ℕ, ◌+◌, ◌||◌, ⊤, ◌⊎◌, Bool, true, false, nat_lt, MatchBool, MatchResult, Option, Some, None, Result, Ok, Err, List, [], ◌∷◌, ◌++◌, All, length, map, codes, bytes_eq}
 use Rattle.range_core.specs.Facts.{MatchFact}
 use Rattle.fd_table.specs.Descriptors.{process_limit}
 use Rattle.fd_table.specs.declared.Limits.{Limits}
-use Rattle.fd_table.specs.declared.Limits.TheVariants.{Small}
-use Rattle.wait_core.specs.declared.Policy.TheVariants.{Held}
 use Rattle.lock_manager.specs.declared.request.Rules.{Rules}
 use Rattle.lock_manager.specs.State.{State}
 use Rattle.session_core.specs.Event.{Event}
@@ -16,9 +14,8 @@ use Rattle.script_core.specs.declared.place.JournalLine.{JournalLine}
 use Rattle.script_core.specs.declared.place.JournalLine.TheVariants as lines
 use Rattle.script_core.specs.declared.script.Cause.{Cause}
 use Rattle.script_core.specs.declared.script.Cause.TheVariants.{Byte, Word, TooLong}
-use Rattle.script_core.specs.HeaderText.{policy_word, limits_word}
+use Rattle.script_core.specs.HeaderReading.{no_header, limits_said, rules_said, HeaderGives}
 use Rattle.script_core.specs.Words.{words_of, is_printable}
-use Rattle.script_core.specs.Arguments.{Argument, PolicyWord, LimitsWord, AreRefused}
 use Rattle.script_core.specs.Reading.{is_comment}
 use Rattle.script_core.specs.EntryText.{entry_text}
 use Rattle.script_core.specs.declared.report.ReportLine.{ReportLine}
@@ -27,15 +24,15 @@ use Rattle.script_core.specs.EntryReading.{entry_limit, pieces_of, PiecesGive, I
 
 -- no line said anything
 abbrev pub opening_place : Place
-opening_place = record { policy = None; limits = None; stage = stages.Header }
+opening_place = record { header = no_header; stage = stages.Header }
 
--- the limits of the journal: small ones where no line said others
+-- the limits of the journal: those that its header lines say
 abbrev pub limits_at : Place → Limits
-limits_at place = unwrap_or place.limits Small
+limits_at place = limits_said place.header
 
--- the rules of the journal: the policy is held where no line said another
+-- the rules of the journal: those that its header lines say
 abbrev pub rules_at : Place → Rules
-rules_at place = record { policy = unwrap_or place.policy Held; limits = limits_at place }
+rules_at place = rules_said place.header
 
 -- the processes of the journal: as many as its limits allow
 abbrev pub processes_at : Place → ℕ
@@ -47,24 +44,10 @@ is_header stages.Header = true
 is_header stages.Entries = false
 is_header stages.Report = false
 
--- the line of this first word says the policy: no line said it, and none was an entry or of the report
-abbrev pub journal_says_policy : Place → List ℕ → Bool
-journal_says_policy place first = bytes_eq first (codes "policy") && (is_none place.policy && is_header place.stage)
-
--- the line of this first word says the limits: no line said them, and none was an entry or of the report
-abbrev pub journal_says_limits : Place → List ℕ → Bool
-journal_says_limits place first = bytes_eq first (codes "limits") && (is_none place.limits && is_header place.stage)
-
 -- the line of this first word is one of the report
 abbrev pub is_report_word : List ℕ → Bool
 is_report_word word =
     bytes_eq word (codes "lock") || (bytes_eq word (codes "flock") || (bytes_eq word (codes "wait") || bytes_eq word (codes "proc")))
-
--- what follows the first word of a header line: one word, that of a value, which is said; or else it is refused
-abbrev pub ValueGives : {A : Type 0} → Argument → (A → List ℕ) → (A → JournalLine) → List (List ℕ) → Result (Option JournalLine) Cause → Type 0
-ValueGives {A} argument word said words result =
-    ((cause : Cause) × AreRefused (argument ∷ []) words cause × (result ≡ Err cause))
-    ⊎ ((value : A) × (words ≡ word value ∷ []) × (result ≡ Ok (Some (said value))))
 
 -- any other line: it should be an entry, unless the report has begun
 abbrev pub OtherGives : Stage → Result (Option JournalLine) Cause → Type 0
@@ -72,15 +55,18 @@ OtherGives stages.Header result = result ≡ Ok None
 OtherGives stages.Entries result = result ≡ Ok None
 OtherGives stages.Report result = result ≡ Err Word
 
+-- a first word that is no comment, and what follows it: a header line where one may stand, a line of the report, or any other line
+abbrev pub FirstGives : Place → List ℕ → List (List ℕ) → Result (Option JournalLine) Cause → Type 0
+FirstGives place first rest result =
+    HeaderGives place.header (is_header place.stage) (λ header. Some (lines.Header header)) first rest
+    (MatchBool (is_report_word first) (result ≡ Ok (Some lines.Report)) (OtherGives place.stage result)) result
+
 -- the words of a line, as far as they say which line it is: none or a comment, a header line where one may stand, one of the report, or
 -- none of these, which should be an entry
 abbrev pub HeadGives : Place → List (List ℕ) → Result (Option JournalLine) Cause → Type 0
 HeadGives place [] result = result ≡ Ok (Some lines.Skipped)
 HeadGives place (first ∷ rest) result =
-    MatchBool (is_comment first) (result ≡ Ok (Some lines.Skipped))
-    (MatchBool (journal_says_policy place first) (ValueGives PolicyWord policy_word (λ policy. lines.Policy policy) rest result)
-    (MatchBool (journal_says_limits place first) (ValueGives LimitsWord limits_word (λ limits. lines.Limits limits) rest result)
-    (MatchBool (is_report_word first) (result ≡ Ok (Some lines.Report)) (OtherGives place.stage result))))
+    MatchBool (is_comment first) (result ≡ Ok (Some lines.Skipped)) (FirstGives place first rest result)
 
 -- a line with this head: what its head says, or the entry that its pieces are
 abbrev pub BodyGives : Limits → List ℕ → Result (Option JournalLine) Cause → Result JournalLine Cause → Type 0
@@ -111,8 +97,7 @@ LinesHaveOneMeaning = (place : Place) (line : List ℕ) → HasOneMeaning place 
 -- the place behind a line that says this
 abbrev pub place_behind : Place → JournalLine → Place
 place_behind place lines.Skipped = place
-place_behind place (lines.Policy policy) = record place { policy = Some policy }
-place_behind place (lines.Limits limits) = record place { limits = Some limits }
+place_behind place (lines.Header header) = record place { header = header }
 place_behind place (lines.Entry event) = record place { stage = stages.Entries }
 place_behind place lines.Report = record place { stage = stages.Report }
 
@@ -129,16 +114,14 @@ journal_start = record { place = opening_place; entries = []; report = [] }
 -- the entries behind a line that says this
 abbrev pub entries_behind : List Event → JournalLine → List Event
 entries_behind entries lines.Skipped = entries
-entries_behind entries (lines.Policy policy) = entries
-entries_behind entries (lines.Limits limits) = entries
+entries_behind entries (lines.Header header) = entries
 entries_behind entries (lines.Entry event) = entries ++ event ∷ []
 entries_behind entries lines.Report = entries
 
 -- the lines of the report behind this line, which says this
 abbrev pub report_behind : List (List ℕ) → List ℕ → JournalLine → List (List ℕ)
 report_behind report line lines.Skipped = report
-report_behind report line (lines.Policy policy) = report
-report_behind report line (lines.Limits limits) = report
+report_behind report line (lines.Header header) = report
 report_behind report line (lines.Entry event) = report
 report_behind report line lines.Report = report ++ line ∷ []
 
@@ -173,8 +156,7 @@ IsWholeReport place entries texts = (reported : List ReportLine) × IsReportAt p
 -- where the report begins with the lines then
 abbrev pub MayGoOn : JournalReading → List ℕ → JournalLine → Type 0
 MayGoOn reading line lines.Skipped = ⊤
-MayGoOn reading line (lines.Policy policy) = ⊤
-MayGoOn reading line (lines.Limits limits) = ⊤
+MayGoOn reading line (lines.Header header) = ⊤
 MayGoOn reading line (lines.Entry event) = AreLegal reading.place (reading.entries ++ event ∷ [])
 MayGoOn reading line lines.Report = IsReportFront reading.place reading.entries (reading.report ++ line ∷ [])
 

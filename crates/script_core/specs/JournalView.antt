@@ -115,8 +115,7 @@ pub record HasRead (reader : JournalReader) (reading : JournalReading) : Type 0 
 -- what may want memory: a header line, for the state under its rules, an entry, and the report
 abbrev pub TakesRoom : JournalLine → Type 0
 TakesRoom lines.Skipped = ⊥
-TakesRoom (lines.Policy policy) = ⊤
-TakesRoom (lines.Limits limits) = ⊤
+TakesRoom (lines.Header header) = ⊤
 TakesRoom (lines.Entry event) = ⊤
 TakesRoom lines.Report = ⊤
 
@@ -129,8 +128,7 @@ WantsMemory place line =
 -- a line of the report the line that is due
 abbrev pub IsToldThere : JournalReading → JournalLine → List ℕ → Type 0
 IsToldThere reading lines.Skipped text = ⊥
-IsToldThere reading (lines.Policy policy) text = ⊥
-IsToldThere reading (lines.Limits limits) text = ⊥
+IsToldThere reading (lines.Header header) text = ⊥
 IsToldThere reading (lines.Entry event) text =
     (expected : Expected) × IsIllegal (rules_at reading.place) (processes_at reading.place) reading.entries event expected
     × (text ≡ expected_text event expected)

@@ -4,6 +4,7 @@ pub mod Numbers
 pub mod RequestText
 pub mod HeaderText
 pub mod Arguments
+pub mod HeaderReading
 pub mod ScriptText
 pub mod Reading
 pub mod ScriptView

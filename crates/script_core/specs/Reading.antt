@@ -1,46 +1,41 @@
 -- How a script is read: line by line, up to the first fault (this project's choice).
-use Rattle.std.specs.Prelude.{◌≡◌, ◌≢◌, ℕ, ◌+◌, ◌≤◌, ◌==◌, ◌⊎◌, Bool, true, false, ◌&&◌, nat_lt, MatchBool, MatchOption, MatchResult, Option, None, Some, is_none, unwrap_or, Result, Ok, Err, List, [], ◌∷◌, ◌++◌, length, codes, decimal, bytes_eq}
+use Rattle.std.specs.Prelude.{◌≡◌, ◌≢◌, ℕ, ◌+◌, ◌≤◌, ◌==◌, ◌⊎◌, ⊤, Bool, IsTrue, true, false, nat_lt, MatchBool, MatchOption, MatchResult, Result, Ok, Err, List, [], ◌∷◌, ◌++◌, length, codes, decimal}
 use Rattle.range_core.specs.declared.Memory.{Memory as Want}
 use Rattle.fd_table.specs.declared.Limits.{Limits}
-use Rattle.fd_table.specs.declared.Limits.TheVariants.{Small}
-use Rattle.wait_core.specs.declared.Policy.{Policy}
-use Rattle.wait_core.specs.declared.Policy.TheVariants.{Held}
 use Rattle.lock_manager.specs.declared.request.Request.{Request}
+use Rattle.script_core.specs.declared.header.Header.{Header}
 use Rattle.script_core.specs.declared.line.Line.{Line}
 use Rattle.script_core.specs.declared.line.Line.TheVariants as lines
 use Rattle.script_core.specs.declared.script.Cause.{Cause}
 use Rattle.script_core.specs.declared.script.Cause.TheVariants.{Byte, Word, Count, Process, TooLong, Memory}
 use Rattle.script_core.specs.declared.script.ScriptFault.{ScriptFault}
-use Rattle.script_core.specs.HeaderText.{policy_word, limits_word}
+use Rattle.script_core.specs.HeaderReading.{no_header, limits_said, rules_said, HeaderGives}
 use Rattle.script_core.specs.RequestText.{request_text}
 use Rattle.script_core.specs.Words.{lines_of, words_of, is_printable, line_limit, script_limit}
-use Rattle.script_core.specs.Arguments.{ProcessNumber, PolicyWord, LimitsWord, Spells, IsFirstBad, AreRefused, Command, command_named, has_count}
+use Rattle.script_core.specs.Arguments.{ProcessNumber, Spells, IsFirstBad, Command, command_named, has_count}
 use Rattle.script_core.specs.ScriptText.{Meaning, IsProcess, IsWritable, IsRequest}
 
 -- what was read so far: what the header lines said, and the arrivals
 pub record Reading : Type 0 where
-  pub policy : Option Policy
-  pub limits : Option Limits
+  pub header : Header
   pub arrivals : List (ℕ × Request)
 
 -- nothing was read
 abbrev pub start : Reading
-start = record { policy = None; limits = None; arrivals = [] }
+start = record { header = no_header; arrivals = [] }
 
 -- the limits that hold for the next line: small ones where no line said others
 abbrev pub limits_of : Reading → Limits
-limits_of reading = unwrap_or reading.limits Small
+limits_of reading = limits_said reading.header
 
 -- the meaning of what was read: the policy is held where no line said another
 abbrev pub meaning_of : Reading → Meaning
-meaning_of reading =
-    record { rules = record { policy = unwrap_or reading.policy Held; limits = limits_of reading }; arrivals = reading.arrivals }
+meaning_of reading = record { rules = rules_said reading.header; arrivals = reading.arrivals }
 
 -- the reading after a line that says this
 abbrev pub reading_after : Reading → Line → Reading
 reading_after reading lines.Skipped = reading
-reading_after reading (lines.Policy policy) = record reading { policy = Some policy }
-reading_after reading (lines.Limits limits) = record reading { limits = Some limits }
+reading_after reading (lines.Header header) = record reading { header = header }
 reading_after reading (lines.Arrival p request) = record reading { arrivals = reading.arrivals ++ (p, request) ∷ [] }
 
 -- whether the list is empty
@@ -53,25 +48,10 @@ abbrev pub is_comment : List ℕ → Bool
 is_comment [] = false
 is_comment (byte ∷ bytes) = byte == 35
 
--- the line of this first word says the policy: no line said it, and none was an arrival
-abbrev pub says_policy : Reading → List ℕ → Bool
-says_policy reading first = bytes_eq first (codes "policy") && (is_none reading.policy && is_empty reading.arrivals)
-
--- the line of this first word says the limits: no line said them, and none was an arrival
-abbrev pub says_limits : Reading → List ℕ → Bool
-says_limits reading first = bytes_eq first (codes "limits") && (is_none reading.limits && is_empty reading.arrivals)
-
--- what follows the word `policy`: the word of a policy
-abbrev pub PolicyGives : List (List ℕ) → Result Line Cause → Type 0
-PolicyGives words result =
-    ((cause : Cause) × AreRefused (PolicyWord ∷ []) words cause × (result ≡ Err cause))
-    ⊎ ((policy : Policy) × (words ≡ policy_word policy ∷ []) × (result ≡ Ok (lines.Policy policy)))
-
--- what follows the word `limits`: the word of limits
-abbrev pub LimitsGive : List (List ℕ) → Result Line Cause → Type 0
-LimitsGive words result =
-    ((cause : Cause) × AreRefused (LimitsWord ∷ []) words cause × (result ≡ Err cause))
-    ⊎ ((limits : Limits) × (words ≡ limits_word limits ∷ []) × (result ≡ Ok (lines.Limits limits)))
+-- a line of these words says nothing: there are none, or it is a comment
+abbrev pub AreSkipped : List (List ℕ) → Type 0
+AreSkipped [] = ⊤
+AreSkipped (first ∷ rest) = IsTrue (is_comment first)
 
 -- the arguments of a command that are as many as it has: the first bad one is told, and else the words are a request
 abbrev pub ArgumentsGive : Limits → List (List ℕ) → Command → List (List ℕ) → Result Request Cause → Type 0
@@ -103,13 +83,15 @@ ProcessGives limits first rest result =
     × (next : Result Request Cause) × RequestGives limits rest next × ArrivalGives p next result)
     ⊎ ((¬ (Spells (ProcessNumber limits) first)) × (result ≡ Err Process))
 
--- the words of a line: none or a comment, which is skipped; a header line, where one may stand; else a process and a request
+-- a first word that is no comment, and what follows it: a header line, where one may stand; else a process and a request
+abbrev pub FirstGives : Header → Bool → List ℕ → List (List ℕ) → Result Line Cause → Type 0
+FirstGives header at_top first rest result = HeaderGives header at_top lines.Header first rest (ProcessGives (limits_said header) first rest result) result
+
+-- the words of a line: none or a comment, which is skipped; a header line, where no arrival came before; else a process and a request
 abbrev pub WordsGive : Reading → List (List ℕ) → Result Line Cause → Type 0
 WordsGive reading [] result = result ≡ Ok lines.Skipped
 WordsGive reading (first ∷ rest) result =
-    MatchBool (is_comment first) (result ≡ Ok lines.Skipped)
-    (MatchBool (says_policy reading first) (PolicyGives rest result)
-    (MatchBool (says_limits reading first) (LimitsGive rest result) (ProcessGives (limits_of reading) first rest result)))
+    MatchBool (is_comment first) (result ≡ Ok lines.Skipped) (FirstGives reading.header (is_empty reading.arrivals) first rest result)
 
 -- a line: too long, with a byte that isn't printable, or words
 abbrev pub LineGives : Reading → List ℕ → Result Line Cause → Type 0
@@ -136,8 +118,7 @@ IsOfScript cause = (memory : Want) → cause ≢ Memory memory
 -- the line is an arrival
 abbrev pub IsArrival : Line → Type 0
 IsArrival lines.Skipped = ⊥
-IsArrival (lines.Policy policy) = ⊥
-IsArrival (lines.Limits limits) = ⊥
+IsArrival (lines.Header header) = ⊥
 IsArrival (lines.Arrival p request) = Unit {0}
 
 -- the lines from this number on say something up to the one at hand, and that one is an arrival

@@ -1,29 +1,25 @@
 -- What a `ScriptReader` has read (the words are this project's choice).
-use Rattle.std.specs.Prelude.{◌≡◌, ℕ, ◌+◌, ◌≤◌, Option, None, Some, Result, Ok, List, [], ◌∷◌, ◌++◌, length}
+use Rattle.std.specs.Prelude.{◌≡◌, ℕ, ◌+◌, ◌≤◌, Bool, Option, None, Some, Result, Ok, List, [], ◌∷◌, ◌++◌, length}
 use Rattle.lock_manager.specs.declared.request.Rules.{Rules}
 use Rattle.lock_manager.specs.declared.request.Request.{Request}
+use Rattle.script_core.specs.declared.header.Header.{Header}
 use Rattle.script_core.specs.declared.line.Line.{Line}
 use Rattle.script_core.specs.declared.line.Line.TheVariants as lines
-use Rattle.script_core.specs.declared.heading.Heading.{Heading}
 use Rattle.script_core.specs.declared.reader.ScriptReader.{ScriptReader}
 use Rattle.script_core.specs.declared.script.ScriptFault.{ScriptFault}
 use Rattle.script_core.specs.Words.{lines_of, script_limit}
 use Rattle.script_core.specs.ScriptText.{Meaning, IsProcess}
-use Rattle.script_core.specs.Reading.{Reading, LinesGive, ComesTo, IsAtHand, Reads, is_empty, meaning_of, start}
+use Rattle.script_core.specs.HeaderReading.{rules_said}
+use Rattle.script_core.specs.Reading.{Reading, LinesGive, ComesTo, IsAtHand, Reads, is_empty, start}
 
 -- what was read, where the header lines said so much and these are the arrivals
-abbrev pub reading_of : Heading → List (ℕ × Request) → Reading
-reading_of heading arrivals = record { policy = heading.policy; limits = heading.limits; arrivals = arrivals }
-
--- the heading is open just where there are no arrivals
-abbrev pub IsHeadingOf : Heading → List (ℕ × Request) → Type 0
-IsHeadingOf heading arrivals = heading.open ≡ is_empty arrivals
+abbrev pub reading_of : Header → List (ℕ × Request) → Reading
+reading_of header arrivals = record { header = header; arrivals = arrivals }
 
 -- the arrival that a line is, if it is one
 abbrev pub arrival_of : Line → Option (ℕ × Request)
 arrival_of lines.Skipped = None
-arrival_of (lines.Policy policy) = None
-arrival_of (lines.Limits limits) = None
+arrival_of (lines.Header header) = None
 arrival_of (lines.Arrival p request) = Some (p, request)
 
 -- the arrivals, and behind them the next one, if there is one
@@ -33,17 +29,17 @@ with_next arrivals (Some arrival) = arrivals ++ arrival ∷ []
 
 -- so many lines were read, which made this reading, and the rest wasn't: whatever the rest gives, the bytes give, and a line at hand that it
 -- comes to, they come to
-pub record IsReadUpTo (bytes : List ℕ) (count : ℕ) (heading : Heading) (arrivals : List (ℕ × Request)) (rest : List ℕ) : Type 0 where
+pub record IsReadUpTo (bytes : List ℕ) (count : ℕ) (header : Header) (at_top : Bool) (arrivals : List (ℕ × Request)) (rest : List ℕ) : Type 0 where
   pub fits : length bytes ≤ script_limit
-  pub heads : IsHeadingOf heading arrivals
+  pub heads : at_top ≡ is_empty arrivals
   pub few : length arrivals + length rest ≤ length bytes
-  pub goes_on : (result : Result Meaning ScriptFault) → LinesGive (count + 1) (reading_of heading arrivals) (lines_of rest) result
+  pub goes_on : (result : Result Meaning ScriptFault) → LinesGive (count + 1) (reading_of header arrivals) (lines_of rest) result
       → LinesGive 1 start (lines_of bytes) result
-  pub comes : (at_hand : ℕ) → ComesTo (count + 1) (reading_of heading arrivals) (lines_of rest) at_hand → ComesTo 1 start (lines_of bytes) at_hand
+  pub comes : (at_hand : ℕ) → ComesTo (count + 1) (reading_of header arrivals) (lines_of rest) at_hand → ComesTo 1 start (lines_of bytes) at_hand
 
 -- of a script of these bytes the reader has read a front, and these are all arrivals of that
 unfoldable pub HasRead : List ℕ → ScriptReader → List (ℕ × Request) → Type 0
-HasRead bytes reader arrivals = IsReadUpTo bytes reader.lines reader.heading arrivals reader.rest.now
+HasRead bytes reader arrivals = IsReadUpTo bytes reader.lines reader.header reader.at_top arrivals reader.rest.now
 
 -- how many bytes weren't read
 unfoldable pub unread_in : ScriptReader → ℕ
@@ -55,7 +51,7 @@ lines_in reader = reader.lines
 
 -- what the header lines said that were read
 unfoldable pub rules_in : ScriptReader → Rules
-rules_in reader = (meaning_of (reading_of reader.heading [])).rules
+rules_in reader = rules_said reader.header
 
 -- the arrival is the one behind these: all before it was read, and it stands in the line that was read last
 pub record IsNext (bytes : List ℕ) (reader : ScriptReader) (arrivals : List (ℕ × Request)) (arrival : ℕ × Request) : Type 0 where

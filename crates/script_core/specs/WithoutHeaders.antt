@@ -38,8 +38,7 @@ PlainLineGives line result =
 -- the arrivals after a line that says this
 abbrev pub arrivals_after : List (ℕ × Request) → Line → List (ℕ × Request)
 arrivals_after arrivals lines.Skipped = arrivals
-arrivals_after arrivals (lines.Policy policy) = arrivals
-arrivals_after arrivals (lines.Limits limits) = arrivals
+arrivals_after arrivals (lines.Header header) = arrivals
 arrivals_after arrivals (lines.Arrival p request) = arrivals ++ (p, request) ∷ []
 
 -- the lines from this number on, behind these arrivals: the first fault is told with its line

@@ -190,12 +190,8 @@ impl JournalReader {
     {
         match said {
             JournalLine::Skipped => Ok(()),
-            JournalLine::Policy(policy) => self.go_to(Place {
-                policy: Some(policy),
-                ..self.place
-            }),
-            JournalLine::Limits(limits) => self.go_to(Place {
-                limits: Some(limits),
+            JournalLine::Header(header) => self.go_to(Place {
+                header,
                 ..self.place
             }),
             JournalLine::Entry(entry) => self.check(entry),
@@ -254,7 +250,11 @@ impl JournalReader {
 fn checker_at(alloc: Global, place: Place) -> Result<JournalChecker, Memory>
     ensures { IfOk result (λ checker. HasAccepted (rules_at place) (processes_at place) checker []) }
 {
-    JournalChecker::new(alloc, place.limits().processes(), place.rules())
+    JournalChecker::new(
+        alloc,
+        place.header.limits().processes(),
+        place.header.rules(),
+    )
 }
 
 /// The text of a line, where it isn't too long and each byte is printable.

@@ -8,7 +8,7 @@ mod entry;
 mod entry_text;
 mod expected;
 mod explain;
-mod heading;
+mod header;
 mod journal;
 mod laws;
 mod line;

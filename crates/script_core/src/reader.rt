@@ -6,7 +6,8 @@ ghost use Rattle.script_core.specs.Words.{lines_of};
 ghost use Rattle.script_core.specs.ScriptText.{IsProcess};
 ghost use Rattle.script_core.specs.Reading.{Reads, IsAtHand, IsOfScript};
 
-use crate::heading::Heading;
+use crate::header::Header;
+use crate::line::{apply, parse_line};
 use crate::{Cause, SCRIPT_MAX, ScriptFault};
 use lock_manager::{Request, Rules};
 use memchr::memchr;
@@ -15,7 +16,9 @@ use memchr::memchr;
 /// said, and where it stands in the bytes.
 #[derive(Drop)]
 pub struct ScriptReader<'a> {
-    heading: Heading,
+    header: Header,
+    /// No arrival was read: a header line may still stand there.
+    at_top: bool,
     /// How many lines were read.
     lines: u64,
     /// What stands behind them.
@@ -40,7 +43,8 @@ impl<'a> ScriptReader<'a> {
             });
         }
         Ok(ScriptReader {
-            heading: Heading::new(),
+            header: Header::new(),
+            at_top: true,
             lines: 0,
             rest: bytes,
         })
@@ -74,7 +78,7 @@ impl<'a> ScriptReader<'a> {
     pub fn rules(&self) -> Rules
         ensures { result ≡ rules_in self.now }
     {
-        self.heading.rules()
+        self.header.rules()
     }
 
     /// The number of the line that was read last, counted from 1: that of the arrival which was handed out last.
@@ -100,11 +104,11 @@ impl<'a> ScriptReader<'a> {
         ensures shorter { OnOk result (unread_in self.new < unread_in self.old) }
     {
         let (line, rest) = first_line(self.rest);
-        match self.heading.parse_line(line) {
+        match parse_line(self.header, self.at_top, line) {
             Ok(said) => {
                 self.rest = rest;
                 self.lines += 1;
-                Ok(self.heading.apply(said))
+                Ok(apply(&mut self.header, &mut self.at_top, said))
             }
             Err(cause) => Err(ScriptFault {
                 line: self.lines + 1,

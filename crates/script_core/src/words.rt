@@ -2,6 +2,7 @@
 ghost use Rattle.std.specs.Prelude.{ℕ, ◌≡◌, ◌≤◌, ◌==◌, if◌then◌else◌, List, [], ◌∷◌, ◌++◌, IsTrue, IsFalse, MatchOption, length, take};
 ghost use Rattle.script_core.specs.Words.{texts};
 ghost use Rattle.script_core.specs.Words as spec;
+ghost use Rattle.script_core.specs.Reading.{AreSkipped, is_comment as begins_comment};
 
 use std::str;
 
@@ -62,6 +63,24 @@ pub fn first_words<'a, 'w>(line: &'a str, room: &'w mut [&'a str; WORDS_MAX]) ->
     }
     count = put_word(room, count, &line[start..]);
     &room[..count]
+}
+
+/// The first one of the first words, and the others, where the line has words and is no comment.
+#[tactic(auto, using(crate::proofs::LineLemmas::comment_skipped))]
+pub fn said_words<'a, 'w>(
+    line: &'a str,
+    room: &'w mut [&'a str; WORDS_MAX],
+) -> Option<(&'a str, &'w [&'a str])>
+    ensures { MatchOption result (AreSkipped (spec.words_of line.now))
+        (λ words. (take WORDS_MAX (spec.words_of line.now) ≡ words.0.now ∷ texts words.1.now) × IsFalse (begins_comment words.0.now)) }
+{
+    if is_comment(line) {
+        return None;
+    }
+    match first_words(line, room) {
+        [first, rest @ ..] if !first.starts_with('#') => Some((first, rest)),
+        _ => None,
+    }
 }
 
 /// Puts what stands between two spaces behind so many words, where it is a word and there is room for one more, and tells how many

@@ -2,11 +2,11 @@ use Rattle.std.proofs.Common.{arith, Ok, subst}
 use Rattle.std.proofs.lemmas.Grind.{common_steps}
 use Rattle.script_core.specs.JournalReading.{JournalLineGives}
 use Rattle.script_core.proofs.JournalStageLemmas.{said_fits}
-use Rattle.script_core.proofs.JournalSeamLemmas.{limits_taken}
+use Rattle.script_core.proofs.JournalSeamLemmas.{header_taken}
 use Rattle.script_core.proofs.journal.JournalReader.take.Goals as goal
 
-pub returns-in-Limits : goal.returns-in-Limits
-returns-in-Limits c = grind (arith, common_steps, limits_taken, said_fits)
+pub returns-in-Header : goal.returns-in-Header
+returns-in-Header c = grind (arith, common_steps, header_taken, said_fits)
 
 pub returns-in-Entry : goal.returns-in-Entry
 returns-in-Entry c = λ reading read gives.

@@ -1,10 +1,10 @@
-use Rattle.std.proofs.Common.{arith, ◌∙◌, sym}
-use Rattle.std.proofs.lemmas.Grind.{common_steps}
-use Rattle.script_core.proofs.JournalLemmas.{head_of_comment, head_of_first}
+use Rattle.script_core.specs.Words.{words_of}
+use Rattle.script_core.proofs.JournalLemmas.{head_of_first, head_skipped}
 use Rattle.script_core.proofs.place.Place.parse_head.Goals as goal
 
-pub returns-then-is_comment : goal.returns-then-is_comment
-returns-then-is_comment c = head_of_comment c.args.self.now c.args.text.now (sym c.is_comment.ensures ∙ c.if-is_comment.true)
+pub returns-in-Some : goal.returns-in-Some
+returns-in-Some c =
+    head_of_first c.args.self.now (words_of c.args.text.now) c.parse_first.result (rw (c.in-Some.ensures.0, c.in-Some.ensures.1) c.parse_first.ensures)
 
-pub returns : goal.returns
-returns c = grind (arith, common_steps, head_of_first)
+pub returns-in-None : goal.returns-in-None
+returns-in-None c = head_skipped c.args.self.now (words_of c.args.text.now) c.in-None.ensures
