@@ -11,9 +11,8 @@ use Rattle.script_core.specs.declared.line.Line.{Line}
 use Rattle.script_core.specs.declared.line.Line.TheVariants as lines
 use Rattle.script_core.specs.declared.script.Cause.{Cause}
 use Rattle.script_core.specs.declared.script.Cause.TheVariants.{Word}
-use Rattle.script_core.specs.Arguments.{Argument, PolicyWord, LimitsWord, Command, AreRefused, commands, command_named, has_count}
-use Rattle.script_core.specs.HeaderText.{policy_word, limits_word}
-use Rattle.script_core.specs.HeaderReading.{ValueGives, HeaderGives, says_policy, says_limits}
+use Rattle.script_core.specs.Arguments.{Argument, Command, AreRefused, commands, command_named, has_count}
+use Rattle.script_core.specs.HeaderReading.{ValueGives, HeaderGives}
 use Rattle.script_core.specs.Reading.{Reading, CommandGives, RequestGives, ProcessGives, WordsGive, AreSkipped, is_comment, is_empty, limits_of}
 
 -- one of two facts for another
@@ -33,11 +32,7 @@ many_values argument word said words others result many more h3 = grind (arith, 
 pub many_header : {B : Type 0} (header : Header) (at_top : Bool) (said : Header → B) (first : List ℕ) (words others : List (List ℕ)) (P Q : Type 0)
     → (result : Result B Cause) → 1 < length words → 1 < length others → (P → Q)
     → HeaderGives header at_top said first words P result → HeaderGives header at_top said first others Q result
-many_header header at_top said first words others P Q result many more f given =
-    MatchBool-map (says_policy header at_top first) _ _ _ _
-    (many_values PolicyWord policy_word (λ policy. said (record header { policy = Some policy })) words others result many more)
-    (MatchBool-map (says_limits header at_top first) _ _ _ _
-    (many_values LimitsWord limits_word (λ limits. said (record header { limits = Some limits })) words others result many more) f) given
+many_header header at_top said first words others P Q result many more f given = grind (arith, common_steps, many_values)
 
 -- what comes of words that were tried as a header line: what the header lines say then, what holds of another line, or a refusal
 abbrev ComesOf : {B : Type 0} → (Header → B) → Type 0 → Result B Cause → Result (Option Header) Cause → Type 0

@@ -87,7 +87,10 @@ impl Place {
     fn parse_first(&self, first: &str, rest: &[&str]) -> Result<Option<JournalLine>, Cause>
         ensures { spec.FirstGives self.now first.now (texts rest.now) result }
     {
-        match (self.header.parse(self.is_header(), first, rest)?, self.stage) {
+        match (
+            self.header.parse(self.is_header(), first, rest)?,
+            self.stage,
+        ) {
             (Some(header), _) => Ok(Some(JournalLine::Header(header))),
             (None, _) if is_report_word(first) => Ok(Some(JournalLine::Report)),
             (None, Stage::Header | Stage::Entries) => Ok(None),
