@@ -33,11 +33,12 @@ module _ (numbers : Numbers) (file : ℕ) (locks : Locks) (F : FileState) (owner
   all_alike (wait ∷ waits) [] on same = absurd same
   all_alike (wait ∷ waits) (pending ∷ pendings) on same =
       let rest = all_alike waits pendings (All-tail (λ (w : Wait). is_on_file file w ≡ true) wait waits on) same.1 in
-      let first = All-head (λ (w : Wait). is_on_file file w ≡ true) wait waits on in
-      (λ blocked. All-cons (IsHeldBack F) pending pendings (one_there wait pending first same.0 (All-head (IsBlockedByLock locks) wait waits blocked))
-          (rest.0 (All-tail (IsBlockedByLock locks) wait waits blocked)),
-      λ blocked. All-cons (IsBlockedByLock locks) wait waits (one_here wait pending first same.0 (All-head (IsHeldBack F) pending pendings blocked))
-          (rest.1 (All-tail (IsHeldBack F) pending pendings blocked)))
+      let first = All-head (λ (w : Wait). is_on_file file w ≡ true) wait waits on in (
+        λ blocked. All-cons (IsHeldBack F) pending pendings (one_there wait pending first same.0 (All-head (IsBlockedByLock locks) wait waits blocked))
+            (rest.0 (All-tail (IsBlockedByLock locks) wait waits blocked)),
+        λ blocked. All-cons (IsBlockedByLock locks) wait waits (one_here wait pending first same.0 (All-head (IsHeldBack F) pending pendings blocked))
+            (rest.1 (All-tail (IsHeldBack F) pending pendings blocked)),
+      )
 
   -- the first that isn't blocked stands at one place in both
   pub same_next : (before : List Wait) (wait : Wait) (after : List Wait) (before' : List Pending) (pending : Pending) (after' : List Pending)
