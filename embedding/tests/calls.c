@@ -796,14 +796,14 @@ static void nothing_is_left_of_a_refusal(void) {
     was_refused = false;
 }
 
-/* Files and owners that hold nothing take no memory, however many come and go: but for one block of each map and list that was
- * used once, and a few of the tree of a file's waits, which a single owner in each way would leave too. */
+/* Files and owners that hold nothing take no memory, however many come and go: all that they leave is what one of each leaves, a block
+ * of each map and list that was used once, and a few of the tree of a file's waits. */
 static void nothing_is_left(void) {
-    enum { USED_ONCE = 9 };
-    const long before = blocks, kept = taken_beside_a_keeper(0), made = taken_after_files(0);
-    CHECK(taken_beside_a_keeper(COMERS) <= kept + USED_ONCE);
-    CHECK(taken_after_files(COMERS) <= made + USED_ONCE);
-    CHECK(taken_after_gone_files(COMERS) <= made + USED_ONCE);
+    enum { ONE = 1 };
+    const long before = blocks;
+    CHECK(taken_beside_a_keeper(COMERS) <= taken_beside_a_keeper(ONE));
+    CHECK(taken_after_files(COMERS) <= taken_after_files(ONE));
+    CHECK(taken_after_gone_files(COMERS) <= taken_after_gone_files(ONE));
     CHECK(blocks == before);
 }
 
