@@ -10,7 +10,7 @@ use Rattle.range_core.specs.Ranges.{Conflict, HeldConflicts}
 use Rattle.range_core.specs.Changes.{is_covered}
 use Rattle.lock_book.specs.declared.Owner.{Owner}
 use Rattle.lock_book.specs.declared.Owner.TheVariants.{Process, Description}
-use Rattle.lock_book.specs.Conflicts.{Blocks, FlockConflict}
+use Rattle.lock_book.specs.Conflicts.{Blocks, FlockConflict, NoneConflict}
 use Rattle.wait_core.specs.declared.Family.{Family}
 use Rattle.wait_core.specs.declared.Family.TheVariants.{Bytes, Whole}
 use Rattle.wait_core.specs.Blocking.{IsBlockedIn}
@@ -35,7 +35,7 @@ AreWithin F = (owner byte : ℕ) (mode : Mode) → F.bytes owner byte ≡ Some m
 
 -- no two owners conflict by flock
 abbrev pub AreCompatible : FileState → Type 0
-AreCompatible F = (one other : ℕ) (m k : Mode) → one ≢ other → F.flocks one ≡ Some m → F.flocks other ≡ Some k → ¬ Conflict m k
+AreCompatible F = NoneConflict F.flocks
 
 -- what holds of the locks of each file
 pub record IsSound (F : FileState) : Type 0 where

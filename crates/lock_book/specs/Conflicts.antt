@@ -1,8 +1,8 @@
 -- Which locks stand in the way of a lock: said of modes by owner, however they are kept.
-use Rattle.std.specs.Prelude.{◌≢◌, ℕ, ◌<◌, ◌≤◌, Option}
+use Rattle.std.specs.Prelude.{◌≡◌, ◌≢◌, ℕ, ◌<◌, ◌≤◌, Option, Some}
 use Rattle.range_core.specs.declared.Mode.{Mode}
 use Rattle.range_core.specs.declared.Span.{Span}
-use Rattle.range_core.specs.Ranges.{Modes, Covers, HeldConflicts, IsRun}
+use Rattle.range_core.specs.Ranges.{Modes, Conflict, Covers, HeldConflicts, IsRun}
 use Rattle.lock_book.specs.declared.Owner.{Owner}
 use Rattle.lock_book.specs.declared.Owner.TheVariants.{Process, Description}
 use Rattle.lock_book.specs.declared.Blocker.{Blocker}
@@ -44,6 +44,16 @@ pub record FlockConflict (modes : FlockModes) (owner : Owner) (wanted : Mode) : 
   pub description : ℕ
   pub another : Description description ≢ owner
   pub conflicts : HeldConflicts (modes description) wanted
+
+-- no two of these have modes that conflict
+abbrev pub NoneConflict : {Who : Type 0} → (Who → Option Mode) → Type 0
+NoneConflict {Who} mode_of = (one other : Who) (m k : Mode) → one ≢ other → mode_of one ≡ Some m → mode_of other ≡ Some k → ¬ Conflict m k
+
+-- no two owners conflict on a byte of the file, and no two descriptions by flock
+-- (POSIX.1-2017 fcntl, DESCRIPTION, F_SETLK, shared and exclusive locks; flock(2))
+pub record IsFreeOfConflicts {Who : Type 0} (modes : Who → Modes) (flock_modes : FlockModes) : Type 0 where
+  pub bytes : (byte : ℕ) → NoneConflict (λ owner. modes owner byte)
+  pub flocks : NoneConflict flock_modes
 
 -- the least byte of the range that is blocked, and of the owners that block there the least
 -- (which blocking lock is the first is this project's choice)

@@ -62,7 +62,7 @@ module _ (F : FileState) (wait : Pending) (before : IsCompatible F) where
   no_conflict free one other byte m k true false distinct a_is b_is m_is k_is conflict = given_conflict free one other byte m k distinct a_is m_is k_is conflict
   no_conflict free one other byte m k false true distinct a_is b_is m_is k_is conflict =
       given_conflict free other one byte k m (λ same. distinct (sym same)) b_is k_is m_is (conflict_back m k conflict)
-  no_conflict free one other byte m k false false distinct a_is b_is m_is k_is conflict = before.bytes one other byte m k distinct m_is k_is conflict
+  no_conflict free one other byte m k false false distinct a_is b_is m_is k_is conflict = before.bytes byte one other m k distinct m_is k_is conflict
 
   -- and the same by flock
   given_flock_conflict : ¬ IsBlockedIn Whole (locks_on F) (as_wait wait) → (one other : ℕ) (m k : Mode) → one ≢ other → (wait.owner == one) ≡ true
@@ -88,12 +88,12 @@ module _ (F : FileState) (wait : Pending) (before : IsCompatible F) where
   gets_compatible : (family : Family) (G : FileState) → ¬ IsBlockedIn family (locks_on F) (as_wait wait)
       → SetsLock family F wait.owner wait.span (Some wait.mode) G → IsCompatible G
   gets_compatible Bytes G free sets = record {
-    bytes = λ one other byte m k distinct m_is k_is.
+    bytes = λ byte one other m k distinct m_is k_is.
         no_conflict free one other byte m k _ _ distinct refl refl (sym (sets.bytes one byte) ∙ m_is) (sym (sets.bytes other byte) ∙ k_is);
     flocks = λ one other m k distinct m_is k_is. before.flocks one other m k distinct (sym (sets.flocks one) ∙ m_is) (sym (sets.flocks other) ∙ k_is);
   }
   gets_compatible Whole G free sets = record {
-    bytes = λ one other byte m k distinct m_is k_is. before.bytes one other byte m k distinct (sym (sets.bytes one byte) ∙ m_is) (sym (sets.bytes other byte) ∙ k_is);
+    bytes = λ byte one other m k distinct m_is k_is. before.bytes byte one other m k distinct (sym (sets.bytes one byte) ∙ m_is) (sym (sets.bytes other byte) ∙ k_is);
     flocks = λ one other m k distinct m_is k_is.
         no_flock_conflict free one other m k _ _ distinct refl refl (sym (sets.flocks one) ∙ m_is) (sym (sets.flocks other) ∙ k_is);
   }

@@ -73,7 +73,7 @@ lacks_in Bytes F wait apart has conflict = by_bytes conflict.other conflict.bloc
     by_bytes (Process number) another conflicts = conflicts
     by_bytes (Description number) another conflicts =
         let both = at_least_conflicts (F.bytes wait.owner conflict.byte) (F.bytes number conflict.byte) wait.mode (has conflict.byte conflict.covered) conflicts in
-        apart.bytes wait.owner number conflict.byte both.0 both.1 (λ same. another (ap Description (sym same))) both.2 both.3 both.4
+        apart.bytes conflict.byte wait.owner number both.0 both.1 (λ same. another (ap Description (sym same))) both.2 both.3 both.4
 lacks_in Whole F wait apart has conflict =
     let both = at_least_conflicts (F.flocks wait.owner) (F.flocks conflict.description) wait.mode has conflict.conflicts in
     apart.flocks wait.owner conflict.description both.0 both.1 (λ same. conflict.another (ap Description (sym same))) both.2 both.3 both.4

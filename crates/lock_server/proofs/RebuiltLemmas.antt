@@ -75,7 +75,7 @@ module _ (F G : FileState) (fewer : (p : Point) (mode : Mode) → mode_at F p �
   byte_free wanted byte covered has (Description number) blocks =
       let found = conflict_by (F.bytes number byte) wanted.mode blocks.conflicts in
       let mine : G.bytes wanted.owner byte ≡ Some wanted.mode = has (on_byte wanted.owner byte) (covered_there wanted.owner wanted.span byte covered) in
-      compatible.bytes number wanted.owner byte found.0 wanted.mode (λ same. blocks.another (ap (λ (n : ℕ). Description n) same))
+      compatible.bytes byte number wanted.owner found.0 wanted.mode (λ same. blocks.another (ap (λ (n : ℕ). Description n) same))
       (fewer (on_byte number byte) found.0 found.1) mine found.2
 
   free_in : (family : Family) (wanted : Pending) → ((p : Point) → is_set_at family wanted.owner wanted.span p ≡ true → mode_at G p ≡ Some wanted.mode)

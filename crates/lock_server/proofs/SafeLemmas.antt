@@ -178,7 +178,7 @@ unfolding opening
 safe_opening policy T same =
     safe_same policy opening T same (record {
       compatible = λ file. record {
-        bytes = λ one other byte m k distinct m_is k_is. absurd (let h : None ≡ Some m = m_is in cc);
+        bytes = λ byte one other m k distinct m_is k_is. absurd (let h : None ≡ Some m = m_is in cc);
         flocks = λ one other m k distinct m_is k_is. absurd (let h : None ≡ Some m = m_is in cc);
       };
       settled = λ file. tt;

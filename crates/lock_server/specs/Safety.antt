@@ -1,20 +1,15 @@
 -- What holds of a lock server between any two calls.
-use Rattle.std.specs.Prelude.{◌≡◌, ◌≢◌, ℕ, Some, AllPairs, Contains}
-use Rattle.range_core.specs.declared.Mode.{Mode}
-use Rattle.range_core.specs.Ranges.{Conflict}
+use Rattle.std.specs.Prelude.{◌≡◌, ◌≢◌, ℕ, AllPairs, Contains}
+use Rattle.lock_book.specs.Conflicts.{IsFreeOfConflicts}
 use Rattle.wait_core.specs.declared.Policy.{Policy}
 use Rattle.lock_server.specs.Files.{FileState}
 use Rattle.lock_server.specs.Settling.{IsSettled}
 use Rattle.lock_server.specs.States.{State, WaitsOn}
 use Rattle.lock_server.specs.Deadlock.{IsFreeOfCycles}
 
--- no two owners conflict on a byte of the file, and no two by flock
--- (POSIX.1-2017 fcntl, DESCRIPTION, F_SETLK, shared and exclusive locks; flock(2))
-pub record IsCompatible (F : FileState) : Type 0 where
-  pub bytes : (one other byte : ℕ) (m k : Mode) → one ≢ other
-      → F.bytes one byte ≡ Some m → F.bytes other byte ≡ Some k → ¬ Conflict m k
-  pub flocks : (one other : ℕ) (m k : Mode) → one ≢ other
-      → F.flocks one ≡ Some m → F.flocks other ≡ Some k → ¬ Conflict m k
+-- no two owners of the file conflict
+abbrev pub IsCompatible : FileState → Type 0
+IsCompatible F = IsFreeOfConflicts F.bytes F.flocks
 
 -- each ticket names one wait or one grant (this project's choice)
 pub record AreTicketsOnce (S : State) : Type 0 where

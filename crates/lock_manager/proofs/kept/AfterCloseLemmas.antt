@@ -1,5 +1,5 @@
 -- What holds of the machine after it has released what a call closed: for `Machine::close_fd`, `Machine::dup_to`, `Machine::end` and `Machine::fork`.
-use Rattle.std.proofs.Common.{arith, ℕ, ◌≡◌, ◌≢◌, All, ◌==◌, refl, sym, ◌∙◌, ap, subst, List, None, Option, Bool, true, false, ◌&&◌, ◌||◌, if◌then◌else◌}
+use Rattle.std.proofs.Common.{arith, ℕ, ◌≡◌, ◌≢◌, All, ◌==◌, refl, sym, ◌∙◌, ap, subst, List, Some, None, Option, Bool, true, false, ◌&&◌, ◌||◌, if◌then◌else◌}
 use Rattle.std.proofs.lemmas.Grind.{common_steps}
 use Rattle.std.proofs.Math.Logic.{∥∥₁_map}
 use Rattle.range_core.specs.declared.Mode.{Mode}
@@ -23,22 +23,33 @@ use Rattle.lock_manager.specs.declared.request.Note.{Note}
 use Rattle.lock_manager.specs.DescriptorCalls.{with_released}
 use Rattle.lock_manager.specs.ProcessCalls.{EndComesTo, without_wait}
 use Rattle.lock_manager.specs.DescriptionLocks.{IsOpenOn, AreOwned, AreWithinFiles}
-use Rattle.lock_manager.specs.LockReleases.{is_one_of, ReleasesLocks}
+use Rattle.lock_manager.specs.LockReleases.{is_one_of, is_released, ReleasesLocks}
 use Rattle.lock_manager.specs.MachineView.{Shows, machine_rules, machine_state, machine_locks, machine_waits}
 use Rattle.lock_manager.proofs.kept.AfterReleaseLemmas.{bytes_after, flocks_after}
 use Rattle.lock_manager.proofs.calls.DescriptorCallLemmas.{Giving, IsServedBy}
 use Rattle.lock_manager.proofs.kept.ClosingLemmas.{Closing, open_after, file_released, not_closed, end_closes}
 use Rattle.lock_manager.proofs.kept.OwnedLemmas.{owned_in}
+use Rattle.lock_manager.proofs.kept.SafetyLemmas.{none_conflict_fewer}
 use Rattle.lock_manager.proofs.kept.ProcessLemmas.{alive_with, alive_still, lived_before, waiting_still, waited_before}
 use Rattle.lock_manager.proofs.kept.WaitLemmas.{suspended_after}
 use Rattle.lock_manager.specs.WaitsKept.{AreStanding}
 use Rattle.lock_manager.proofs.calls.ProcessCallLemmas.{without_absent}
 use Rattle.lock_manager.proofs.kept.WaitCloseLemmas.{holders_closed}
 
+-- what is still held was held
+held_before : (released : Bool) (held : Option Mode) (m : Mode) → (if released then None else held) ≡ Some m → held ≡ Some m
+held_before true held m is = let none : None ≡ Some m = is in cc
+held_before false held m is = is
+
 -- without some locks the others conflict no more than before
 pub compatible_released : (old new : Locks) (p : ℕ) (files descriptions : List ℕ) → ReleasesLocks old new p files descriptions → AreCompatible old
     → AreCompatible new
-compatible_released old new p files descriptions releases before = grind (arith, common_steps)
+compatible_released old new p files descriptions releases before f = record {
+  bytes = λ byte. none_conflict_fewer (λ o. old.bytes f o byte) (λ o. new.bytes f o byte) ((before f).bytes byte)
+      (λ o m is. held_before (is_one_of files f && is_released p descriptions o) (old.bytes f o byte) m (sym (releases.bytes f o byte) ∙ is));
+  flocks = none_conflict_fewer (old.flocks f) (new.flocks f) (before f).flocks
+      (λ d m is. held_before (is_one_of files f && is_one_of descriptions d) (old.flocks f d) m (sym (releases.flocks f d) ∙ is));
+}
 
 -- nor are any past the largest offset
 pub within_released : (old new : Locks) (p : ℕ) (files descriptions : List ℕ) → ReleasesLocks old new p files descriptions → AreWithinFiles old

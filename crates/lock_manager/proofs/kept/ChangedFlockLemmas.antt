@@ -8,7 +8,7 @@ use Rattle.std.proofs.lemmas.Bool.Decides.{eqb_tells}
 use Rattle.range_core.specs.declared.Memory.{Memory}
 use Rattle.range_core.specs.declared.Mode.{Mode}
 use Rattle.range_core.specs.declared.Mode.TheVariants.{Read, Write}
-use Rattle.range_core.specs.Ranges.{Conflict, HeldConflicts}
+use Rattle.range_core.specs.Ranges.{HeldConflicts}
 use Rattle.lock_book.specs.declared.Owner.{Owner}
 use Rattle.lock_book.specs.declared.Owner.TheVariants.{Process, Description}
 use Rattle.lock_book.specs.declared.book.Book.{Book}
@@ -34,7 +34,7 @@ use Rattle.lock_manager.specs.DescriptionLocks.{IsOpenOn, AreOwned, MayLock}
 use Rattle.lock_manager.specs.MachineView.{Shows, machine_locks, machine_state, machine_waits}
 use Rattle.lock_manager.specs.WaitsKept.{AreKept, AreApart, HaveRoom, has_place_at, FreesNobody, SameWaits, StayBlocked}
 use Rattle.lock_manager.proofs.kept.BookLemmas.{slice_get-set, slice_get-set_same, entry_is, same_bytes, flock_mode_from-append}
-use Rattle.lock_manager.proofs.kept.SafetyLemmas.{conflict_back, same_owner}
+use Rattle.lock_manager.proofs.kept.SafetyLemmas.{none_conflict_after, none_conflict_fewer, same_owner}
 use Rattle.lock_manager.proofs.kept.OwnedLemmas.{none_but_set}
 use Rattle.lock_manager.proofs.kept.WaitLemmas.{told_by_bytes, room_with, same_room, KeepsLocks, keeps_same, elsewhere_still}
 use Rattle.lock_manager.proofs.kept.SuspendLemmas.{counted, kept_by_book}
@@ -65,37 +65,23 @@ flock_mode_from-push before changes change file description = flock_mode_from-ap
 is_of : (file description f d : ℕ) → ((file == f) && (description == d)) ≡ true → (file ≡ f) × (description ≡ d)
 is_of file description f d e = grind (arith, common_steps, and_parts, eqb-true)
 
--- of two descriptions with conflicting modes after a change, neither is the one that changed without standing against the other before
-no_conflict : (locks : Locks) (file description : ℕ) (mode : Option Mode) → AreCompatible locks
-    → ((m : Mode) → mode ≡ Some m → ¬ FlockConflict (locks.flocks file) (Description description) m)
-    → (f one other : ℕ) (m k : Mode) (a b : Bool) → one ≢ other
-    → ((file == f) && (description == one)) ≡ a → ((file == f) && (description == other)) ≡ b
-    → (if a then mode else locks.flocks f one) ≡ Some m → (if b then mode else locks.flocks f other) ≡ Some k → ¬ Conflict m k
-no_conflict locks file description mode before free f one other m k true true distinct a_is b_is m_is k_is conflict =
-    distinct (sym (is_of file description f one a_is).1 ∙ (is_of file description f other b_is).1)
-no_conflict locks file description mode before free f one other m k true false distinct a_is b_is m_is k_is conflict =
-    let here = is_of file description f one a_is in
-    free m m_is (record {
-      description = other;
-      another = λ e. (let same : other ≡ description = cc in distinct (sym here.1 ∙ sym same));
-      conflicts = subst (λ held. HeldConflicts held m) (sym k_is ∙ ap (λ g. locks.flocks g other) (sym here.0)) (conflict_back m k conflict);
-    })
-no_conflict locks file description mode before free f one other m k false true distinct a_is b_is m_is k_is conflict =
-    let here = is_of file description f other b_is in
-    free k k_is (record {
-      description = one;
-      another = λ e. (let same : one ≡ description = cc in distinct (same ∙ here.1));
-      conflicts = subst (λ held. HeldConflicts held k) (sym m_is ∙ ap (λ g. locks.flocks g one) (sym here.0)) conflict;
-    })
-no_conflict locks file description mode before free f one other m k false false distinct a_is b_is m_is k_is conflict =
-    before.flocks f one other m k distinct m_is k_is conflict
-
 -- a change of a flock lock that nothing blocks makes no conflict
 compatible_flock : (old new : Locks) (file description : ℕ) (mode : Option Mode) → AreCompatible old
     → ((m : Mode) → mode ≡ Some m → ¬ FlockConflict (old.flocks file) (Description description) m)
     → ((f : ℕ) (o : Owner) (byte : ℕ) → new.bytes f o byte ≡ old.bytes f o byte)
     → ((f d : ℕ) → new.flocks f d ≡ (if (file == f) && (description == d) then mode else old.flocks f d)) → AreCompatible new
-compatible_flock old new file description mode before free bytes flocks = grind (arith, common_steps, no_conflict)
+compatible_flock old new file description mode before free bytes flocks f = record {
+  bytes = λ byte. none_conflict_fewer (λ o. old.bytes f o byte) (λ o. new.bytes f o byte) ((before f).bytes byte) (λ o m is. sym (bytes f o byte) ∙ is);
+  flocks = none_conflict_after (old.flocks f) (new.flocks f) (λ d. (file == f) && (description == d)) mode (before f).flocks
+      (λ one other here there. sym (is_of file description f one here).1 ∙ (is_of file description f other there).1)
+      (λ one other m here distinct m_is conflicts. (let is = is_of file description f one here in
+      free m m_is (record {
+        description = other;
+        another = λ e. (let same : other ≡ description = cc in distinct (sym is.1 ∙ sym same));
+        conflicts = subst (λ (g : ℕ). HeldConflicts (old.flocks g other) m) (sym is.0) conflicts;
+      })))
+      (flocks f);
+}
 
 -- the description that has it is open
 owned_flock : (tables : Tables) (waits : List Wait) (old new : Locks) (file description : ℕ) (mode : Option Mode)

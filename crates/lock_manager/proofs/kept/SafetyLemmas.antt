@@ -1,5 +1,5 @@
 -- No owners conflict after a change that nothing blocked: for `Machine::new`.
-use Rattle.std.proofs.Common.{arith, ℕ, ◌≡◌, ◌≢◌, ◌<◌, sym, ◌∙◌, ap, subst, List, [], ◌∷◌, ◌++◌, Some, Option, Bool, true, false, All, ◌==◌, ◌&&◌, if◌then◌else◌, slice_get, slice_set, Result, OnOk, OnErr, length, eqb-true, eq-eqb, leb-true}
+use Rattle.std.proofs.Common.{arith, ℕ, ◌≡◌, ◌≢◌, ◌<◌, refl, sym, ◌∙◌, ap, subst, List, [], ◌∷◌, ◌++◌, Some, None, Option, Bool, true, false, All, ◌==◌, ◌&&◌, if◌then◌else◌, slice_get, slice_set, Result, OnOk, OnErr, length, eqb-true, eq-eqb, leb-true}
 use Rattle.std.proofs.lemmas.Bool.{and_parts}
 use Rattle.std.proofs.lemmas.Grind.{common_steps}
 use Rattle.range_core.specs.declared.Memory.{Memory}
@@ -12,7 +12,7 @@ use Rattle.range_core.specs.Ranges.{Conflict, Covers, HeldConflicts}
 use Rattle.range_core.specs.Changes.{is_covered}
 use Rattle.lock_book.specs.declared.Owner.{Owner}
 use Rattle.lock_book.specs.Owners.{is_same_owner}
-use Rattle.lock_book.specs.Conflicts.{ByteConflict}
+use Rattle.lock_book.specs.Conflicts.{ByteConflict, NoneConflict}
 use Rattle.wait_core.specs.declared.Policy.{Policy}
 use Rattle.wait_core.specs.declared.Wait.{Wait}
 use Rattle.wait_core.specs.Locks.{Locks, locks_of}
@@ -29,7 +29,7 @@ pub itself : (owner : Owner) → is_same_owner owner owner ≡ true
 itself owner = grind (arith, common_steps, eq-eqb)
 
 -- conflict is symmetric
-pub conflict_back : (m k : Mode) → Conflict m k → Conflict k m
+conflict_back : (m k : Mode) → Conflict m k → Conflict k m
 conflict_back m k h = grind (arith, common_steps)
 
 -- what a change on this byte of this file is
@@ -55,52 +55,60 @@ no_chain policy locks p (next ∷ through) q steps = no_place steps.0.before ste
 pub free_without_waits : (policy : Policy) (locks : Locks) → IsFreeOfCycles policy locks []
 free_without_waits policy locks p led = no_chain policy locks p led.0 p led.1
 
--- of two owners with conflicting modes after a change, neither is the one that changed without standing against the other before
-no_conflict : (locks : Locks) (file : ℕ) (owner : Owner) (span : Span) (mode : Option Mode) → AreCompatible locks
-    → ((m : Mode) → mode ≡ Some m → ¬ ByteConflict (locks.bytes file) owner span m)
-    → (f : ℕ) (one other : Owner) (byte : ℕ) (m k : Mode) (a b : Bool) → one ≢ other
-    → ((file == f) && is_same_owner owner one && is_covered span byte) ≡ a
-    → ((file == f) && is_same_owner owner other && is_covered span byte) ≡ b
-    → (if a then mode else locks.bytes f one byte) ≡ Some m → (if b then mode else locks.bytes f other byte) ≡ Some k → ¬ Conflict m k
-no_conflict locks file owner span mode before free f one other byte m k true true distinct a_is b_is m_is k_is conflict =
-    distinct (sym (hit file owner span f one byte a_is).owner_is ∙ (hit file owner span f other byte b_is).owner_is)
-no_conflict locks file owner span mode before free f one other byte m k true false distinct a_is b_is m_is k_is conflict =
-    let here = hit file owner span f one byte a_is in
-    free m m_is (record {
-      byte = byte;
-      covered = here.covered;
-      other = other;
-      blocks = record {
-        another = λ e. distinct (sym here.owner_is ∙ sym e);
-        conflicts = subst (λ held. HeldConflicts held m) (sym k_is ∙ ap (λ g. locks.bytes g other byte) (sym here.file_is)) (conflict_back m k conflict);
-      };
-    })
-no_conflict locks file owner span mode before free f one other byte m k false true distinct a_is b_is m_is k_is conflict =
-    let here = hit file owner span f other byte b_is in
-    free k k_is (record {
-      byte = byte;
-      covered = here.covered;
-      other = one;
-      blocks = record {
-        another = λ e. distinct (e ∙ here.owner_is);
-        conflicts = subst (λ held. HeldConflicts held k) (sym m_is ∙ ap (λ g. locks.bytes g one byte) (sym here.file_is)) conflict;
-      };
-    })
-no_conflict locks file owner span mode before free f one other byte m k false false distinct a_is b_is m_is k_is conflict =
-    before.bytes f one other byte m k distinct m_is k_is conflict
+-- what some of these are set to, where it conflicts with no other's, makes no conflict
+pub none_conflict_after : {Who : Type 0} (old new : Who → Option Mode) (sets : Who → Bool) (mode : Option Mode) → NoneConflict old
+    → ((one other : Who) → sets one ≡ true → sets other ≡ true → one ≡ other)
+    → ((one other : Who) (m : Mode) → sets one ≡ true → one ≢ other → mode ≡ Some m → ¬ HeldConflicts (old other) m)
+    → ((who : Who) → new who ≡ (if sets who then mode else old who)) → NoneConflict new
+none_conflict_after {Who} old new sets mode before once free is one other m k distinct m_is k_is conflict =
+    at (sets one) (sets other) refl refl (sym (is one) ∙ m_is) (sym (is other) ∙ k_is)
+  where
+    against : (here there : Who) (n l : Mode) → sets here ≡ true → here ≢ there → mode ≡ Some n → old there ≡ Some l → ¬ Conflict l n
+    against here there n l sets_here apart n_is l_is conflicts =
+        free here there n sets_here apart n_is (subst (λ (held : Option Mode). HeldConflicts held n) (sym l_is) conflicts)
+
+    at : (a b : Bool) → sets one ≡ a → sets other ≡ b → (if a then mode else old one) ≡ Some m → (if b then mode else old other) ≡ Some k → ⊥
+    at true true a b first second = distinct (once one other a b)
+    at true false a b first second = against one other m k a distinct first second (conflict_back m k conflict)
+    at false true a b first second = against other one k m b (λ same. distinct (sym same)) second first conflict
+    at false false a b first second = before one other m k distinct first second conflict
+
+-- fewer locks, or the same, conflict no more
+pub none_conflict_fewer : {Who : Type 0} (old new : Who → Option Mode) → NoneConflict old
+    → ((who : Who) (m : Mode) → new who ≡ Some m → old who ≡ Some m) → NoneConflict new
+none_conflict_fewer old new before fewer one other m k distinct m_is k_is = before one other m k distinct (fewer one m m_is) (fewer other k k_is)
 
 -- a change that nothing blocks makes no conflict
 pub compatible_set : (old new : Locks) (file : ℕ) (owner : Owner) (span : Span) (mode : Option Mode) → AreCompatible old
     → ((m : Mode) → mode ≡ Some m → ¬ ByteConflict (old.bytes file) owner span m)
     → ((f : ℕ) (o : Owner) (byte : ℕ) → new.bytes f o byte ≡ changed old file owner span mode f o byte)
     → ((f d : ℕ) → new.flocks f d ≡ old.flocks f d) → AreCompatible new
-compatible_set old new file owner span mode before free bytes flocks = grind (arith, common_steps, no_conflict)
+compatible_set old new file owner span mode before free bytes flocks f = record {
+  bytes = λ byte. none_conflict_after (λ o. old.bytes f o byte) (λ o. new.bytes f o byte)
+      (λ o. (file == f) && is_same_owner owner o && is_covered span byte) mode ((before f).bytes byte)
+      (λ one other here there. sym (hit file owner span f one byte here).owner_is ∙ (hit file owner span f other byte there).owner_is)
+      (λ one other m here distinct m_is conflicts. (let is = hit file owner span f one byte here in
+      free m m_is (record {
+        byte = byte;
+        covered = is.covered;
+        other = other;
+        blocks = record {
+          another = λ e. distinct (sym is.owner_is ∙ sym e);
+          conflicts = subst (λ (g : ℕ). HeldConflicts (old.bytes g other byte) m) (sym is.file_is) conflicts;
+        };
+      })))
+      (λ o. bytes f o byte);
+  flocks = none_conflict_fewer (old.flocks f) (new.flocks f) (before f).flocks (λ d m is. sym (flocks f d) ∙ is);
+}
 
 -- the same locks are as compatible
 pub compatible_same : (old new : Locks) → AreCompatible old
     → ((f : ℕ) (o : Owner) (byte : ℕ) → new.bytes f o byte ≡ old.bytes f o byte)
     → ((f d : ℕ) → new.flocks f d ≡ old.flocks f d) → AreCompatible new
-compatible_same old new before bytes flocks = grind (arith, common_steps)
+compatible_same old new before bytes flocks f = record {
+  bytes = λ byte. none_conflict_fewer (λ o. old.bytes f o byte) (λ o. new.bytes f o byte) ((before f).bytes byte) (λ o m is. sym (bytes f o byte) ∙ is);
+  flocks = none_conflict_fewer (old.flocks f) (new.flocks f) (before f).flocks (λ d m is. sym (flocks f d) ∙ is);
+}
 
 -- one book's change that nothing blocks, or that was refused, makes no conflict
 pub compatible_after : (books : List Book) (file : ℕ) (old new : Book) (owner : Owner) (span : Span) (mode : Option Mode) (result : Result (Unit {0}) Memory)
@@ -115,4 +123,7 @@ compatible_after books file old new owner span mode result within was free sets 
 
 -- where there are no locks none conflict
 pub compatible_without_locks : (books : List Book) → All HoldsNothing books → AreCompatible (locks_of books)
-compatible_without_locks books empty = grind (arith, common_steps, unlocked_bytes, unlocked_flocks)
+compatible_without_locks books empty f = record {
+  bytes = λ byte one other m k distinct m_is k_is. absurd (let none : None ≡ Some m = sym (unlocked_bytes books empty f one byte) ∙ m_is in cc);
+  flocks = λ one other m k distinct m_is k_is. absurd (let none : None ≡ Some m = sym (unlocked_flocks books empty f one) ∙ m_is in cc);
+}
