@@ -302,6 +302,16 @@ static struct timing forgets(uint64_t n) {
     return timing;
 }
 
+/* Of each client two owners, which have locks on one file. */
+static struct timing clients_gone(uint64_t n) {
+    struct dehokuna_server server = made();
+    for (uint64_t owner = 0; owner < 2 * n; owner++)
+        DEMAND(dehokuna_set(&server, owner / 2, owner, 10 * owner, 10 * owner + 9, DEHOKUNA_WRITE) == DEHOKUNA_DONE);
+    struct timing timing = begin();
+    while (goes_on(&timing, n)) dehokuna_forget_owners(&server, 2 * timing.calls - 2, 2 * timing.calls - 1);
+    return timing;
+}
+
 /* The bytes of one file on which n owners have locks, and one in a hundred of them waits, detected, for the lock of the next. */
 static struct timing imports(uint64_t n) {
     struct dehokuna_server server = made(), copy = {0};
@@ -342,6 +352,7 @@ static const struct row {
     {"a detected wait in a chain of n, on one file", chain_on_one_file},
     {"the same on a file each", chain_on_many_files},
     {"a forget of each of n owners, on a file each", forgets},
+    {"by forget_owners, of two", clients_gone},
     {"an import of n locks on one file and n / 100 detected waits, a lock", imports},
 };
 

@@ -1,5 +1,4 @@
--- What owners from a first number to a last one have goes, owner by owner: for `LockFile::strip_bytes`, `LockFile::strip_flocks` and
--- `Seen::forget_all`.
+-- What owners from a first number to a last one have goes, owner by owner: for `LockFile::strip_bytes` and `LockFile::strip_flocks`.
 use Rattle.std.proofs.Common.{ℕ, ◌≡◌, ◌≢◌, ◌+◌, ◌<◌, ◌≤◌, ◌∙◌, inl, inr, sym, ap, refl, arith, true, false, Bool, Option, None}
 use Rattle.std.proofs.lemmas.Grind.{common_steps}
 use Rattle.std.specs.Prelude.{◌==◌, ◌&&◌, if◌then◌else◌, nat_le, nat_lt}

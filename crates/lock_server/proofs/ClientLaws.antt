@@ -1,5 +1,5 @@
 -- What the calls for clients and files that are gone come to is determined, and what those tell that ask: for `replicas_agree`.
-use Rattle.std.proofs.Common.{ℕ, zero, suc, ◌≡◌, ◌+◌, ◌-◌, ◌≤◌, ◌∙◌, add-suc, add-zero, inl, inr, sym, ap, subst, arith, Bool, List, [], append-nil}
+use Rattle.std.proofs.Common.{ℕ, zero, suc, ◌≡◌, ◌+◌, ◌-◌, ◌≤◌, ◌∙◌, add-suc, add-zero, inl, inr, sym, ap, subst, arith, Bool, List, []}
 use Rattle.std.proofs.lemmas.Bool.{cases_eq, cases_lt}
 use Rattle.wait_core.specs.declared.Policy.{Policy}
 use Rattle.lock_server.specs.declared.Counts.{Counts}
@@ -9,23 +9,17 @@ use Rattle.lock_server.specs.Counting.{AreCounts, IsTold, flock_locks_on, runs_o
 use Rattle.lock_server.specs.Files.{FileState, SameFile, untouched}
 use Rattle.lock_server.specs.Openings.{SameOpenings}
 use Rattle.lock_server.specs.Settling.{IsSettled}
-use Rattle.lock_server.specs.States.{Crosses, SameState, SettlesFile, State}
+use Rattle.lock_server.specs.States.{Crosses, SameState, State}
+use Rattle.lock_server.proofs.ClientLemmas.{settled_again, stripped_one}
 use Rattle.lock_server.proofs.CountLemmas.{sum_one}
 use Rattle.lock_server.proofs.CrossLemmas.{contains_none}
 use Rattle.lock_server.proofs.OutcomeLaws.{crossed_one, state_one, then_settled_one}
-use Rattle.lock_server.proofs.StateLemmas.{SameFile-itself, SameFile-then, file_from_same, state_from_same}
+use Rattle.lock_server.proofs.StateLemmas.{SameFile-then, file_from_same, state_from_same}
 
 -- what leaves all files leaves one state
 strips_one : (S : State) (gone : ℕ → Bool) (T U : State) → Strips S gone T → Strips S gone U → U ≡ T
 strips_one S gone T U one other =
-    let same : (file : ℕ) → SameFile (T.files file) (U.files file) = λ file. (
-    let h = one.files file in let k = other.files file in record {
-      locks = record {
-        bytes = λ owner byte. k.locks.bytes owner byte ∙ sym (h.locks.bytes owner byte);
-        flocks = λ owner. k.locks.flocks owner ∙ sym (h.locks.flocks owner);
-      };
-      waits = k.waits ∙ sym h.waits;
-    }) in
+    let same : (file : ℕ) → SameFile (T.files file) (U.files file) = λ file. stripped_one (S.files file) gone (T.files file) (U.files file) (one.files file) (other.files file) in
     state_from_same T U (record { files = same; grants = other.grants ∙ sym one.grants; crossed = crossed_one S T U [] one.crossed other.crossed same })
 
 -- whoever is crossed has a detected wait
@@ -52,16 +46,6 @@ leaves_behind policy (suc file) S T crosses (M, below, settles) =
           (settles.others other (λ is. omega (arith, is, from)));
       crossed = crosses_still M T _ settles.crossed;
     }
-
--- a file that is settled is settled again by nothing
-settled_again : (policy : Policy) (S : State) (file : ℕ) → IsSettled policy (S.files file) → Crosses S [] S → SettlesFile policy S file S
-settled_again policy S file settled crosses = record {
-  granted = [];
-  settles = (settled, SameFile-itself (S.files file));
-  others = λ other differs. SameFile-itself (S.files other);
-  grants = sym (append-nil S.grants);
-  crossed = crosses;
-}
 
 -- so as many files more may be settled
 settled_further : (policy : Policy) (bound more : ℕ) (S T : State) → Crosses T [] T → ((file : ℕ) → bound ≤ file → IsSettled policy (T.files file))

@@ -18,7 +18,7 @@ use Rattle.lock_server.specs.FileView.{file_state, state_at}
 use Rattle.lock_server.specs.FilesView.{PutsEntry, entry_in}
 use Rattle.lock_server.specs.Index.{IsIndexed}
 use Rattle.lock_server.specs.Leaving.{is_leaving, is_staying}
-use Rattle.lock_server.specs.Settling.{IsSettled, Settles}
+use Rattle.lock_server.specs.Settling.{IsSettled}
 use Rattle.lock_server.specs.States.{ChangesFile, Crosses, HasDetected, IsDetectedOf, SameState, SettlesFile, State}
 use Rattle.lock_server.specs.TableView.{AllLeave, StripsLocksOn}
 use Rattle.lock_server.proofs.CrossLemmas.{CrossesBy-same}
@@ -114,10 +114,15 @@ stripped_before M file gone T strips other has = elim (cases_eq has.file file) [
   | inr differs ↦ record { file = has.file; among = subst (λ (waits : List Pending). Any (IsDetectedOf other) waits) (strips.changes.others has.file differs).waits has.among }
 ]
 
--- an untouched file loses nothing
-stripped_untouched : (F : FileState) (gone : ℕ → Bool) → SameFile untouched F → StripsFile F gone F
-stripped_untouched F gone same =
-    subst (λ (G : FileState). StripsFile G gone G) (sym (file_from_same untouched F same)) (record { locks = untouched_stripped gone; waits = refl })
+-- what leaves a file leaves one state of it
+pub stripped_one : (F : FileState) (gone : ℕ → Bool) (G H : FileState) → StripsFile F gone G → StripsFile F gone H → SameFile G H
+stripped_one F gone G H one other = record {
+  locks = record {
+    bytes = λ owner byte. other.locks.bytes owner byte ∙ sym (one.locks.bytes owner byte);
+    flocks = λ owner. other.locks.flocks owner ∙ sym (one.locks.flocks owner);
+  };
+  waits = other.waits ∙ sym one.waits;
+}
 
 -- on all files below this one the owners have nothing, and from it on nothing has changed
 pub record IsStripping (S : State) (gone : ℕ → Bool) (next : ℕ) (T : State) : Type 0 where
@@ -140,9 +145,9 @@ from_same F F' G G' gone before after strips =
     subst (λ (H : FileState). StripsFile F gone H) (sym (file_from_same G G' after))
     (subst (λ (H : FileState). StripsFile H gone G) (file_from_same F F' before) strips)
 
--- the next file that is not untouched
+-- the next file, where on those between the owners have nothing
 stripping_step : (S : State) (gone : ℕ → Bool) (next : ℕ) (M : State) (file : ℕ) (T : State) → IsStripping S gone next M → next ≤ file
-    → ((other : ℕ) → next ≤ other → other < file → SameFile untouched (M.files other)) → StripsOn M file gone T → IsStripping S gone (file + 1) T
+    → ((other : ℕ) → next ≤ other → other < file → StripsFile (M.files other) gone (M.files other)) → StripsOn M file gone T → IsStripping S gone (file + 1) T
 stripping_step S gone next M file T so_far from none strips = record {
   earlier = λ other before. elim (cases_lt other next) [
     | inl below ↦
@@ -154,7 +159,7 @@ stripping_step S gone next M file T so_far from none strips = record {
           (from_same (S.files file) (M.files file) (T.files file) (T.files file) gone (so_far.later file from) (SameFile-itself (T.files file)) strips.strips)
       | inr differs ↦
           from_same (S.files other) (M.files other) (M.files other) (T.files other) gone (so_far.later other past)
-          (strips.changes.others other differs) (stripped_untouched (M.files other) gone (none other past (omega arith)))
+          (strips.changes.others other differs) (none other past (omega arith))
     ]
   ];
   later = λ other past.
@@ -165,31 +170,35 @@ stripping_step S gone next M file T so_far from none strips = record {
 }
 
 pub stripping_more : (S : State) (gone : ℕ → Bool) (next : ℕ) (M : State) (file : ℕ) (between T : State) → IsStripping S gone next M → next ≤ file
-    → ((other : ℕ) → next ≤ other → other < file → SameFile untouched (M.files other)) → StripsOn M file gone between
+    → ((other : ℕ) → next ≤ other → other < file → StripsFile (M.files other) gone (M.files other)) → StripsOn M file gone between
     → SameState between T → IsStripping S gone (file + 1) T
 stripping_more S gone next M file between T so_far from none strips same =
     subst (λ (U : State). IsStripping S gone (file + 1) U) (sym (state_from_same between T same))
     (stripping_step S gone next M file between so_far from none strips)
 
--- from here on all files are untouched
+-- from here on they have nothing on any file
 pub all_files_stripped : (S : State) (gone : ℕ → Bool) (next : ℕ) (T : State) → IsStripping S gone next T
-    → ((file : ℕ) → next ≤ file → SameFile untouched (T.files file)) → Strips S gone T
+    → ((file : ℕ) → next ≤ file → StripsFile (T.files file) gone (T.files file)) → Strips S gone T
 all_files_stripped S gone next T so_far none = record {
   files = λ file. elim (cases_lt file next) [
     | inl below ↦ so_far.earlier file below
     | inr past ↦
         from_same (S.files file) (T.files file) (T.files file) (T.files file) gone (so_far.later file past) (SameFile-itself (T.files file))
-        (stripped_untouched (T.files file) gone (none file past))
+        (none file past)
   ];
   grants = so_far.grants;
   crossed = so_far.crossed;
 }
 
--- an untouched file is settled already
-settled_untouched : (policy : Policy) (S : State) (file : ℕ) → SameFile untouched (S.files file) → Crosses S [] S → SettlesFile policy S file S
-settled_untouched policy S file same crossed = record {
+-- an untouched file is settled
+pub settled_untouched : (policy : Policy) (F : FileState) → SameFile untouched F → IsSettled policy F
+settled_untouched policy F same = subst (λ (G : FileState). IsSettled policy G) (sym (file_from_same untouched F same)) tt
+
+-- a file that is settled is settled again by nothing
+pub settled_again : (policy : Policy) (S : State) (file : ℕ) → IsSettled policy (S.files file) → Crosses S [] S → SettlesFile policy S file S
+settled_again policy S file settled crossed = record {
   granted = [];
-  settles = subst (λ (F : FileState). Settles policy F [] F) (sym (file_from_same untouched (S.files file) same)) (tt, SameFile-itself untouched);
+  settles = (settled, SameFile-itself (S.files file));
   others = λ other differs. SameFile-itself (S.files other);
   grants = sym (append-nil S.grants);
   crossed = crossed;
@@ -204,19 +213,19 @@ pub settling_none : (policy : Policy) (S : State) → IsSettling policy S 0 S
 settling_none policy S =
     record { settles = record { files = λ file. SameFile-itself (S.files file); grants = refl; crossed = λ owner. refl }; later = λ file from. SameFile-itself (S.files file) }
 
--- as far as this file, where those on the way are untouched
+-- as far as this file, where those on the way are settled
 settling_to : (policy : Policy) (S : State) (next gap : ℕ) (M : State) → Crosses M [] M → IsSettling policy S next M
-    → ((other : ℕ) → next ≤ other → other < next + gap → SameFile untouched (M.files other)) → SettlesBelow policy (next + gap) S M
+    → ((other : ℕ) → next ≤ other → other < next + gap → IsSettled policy (M.files other)) → SettlesBelow policy (next + gap) S M
 settling_to policy S next zero M crossed so_far none = subst (λ (n : ℕ). SettlesBelow policy n S M) (sym (add-zero next)) so_far.settles
 settling_to policy S next (suc gap) M crossed so_far none =
     subst (λ (n : ℕ). SettlesBelow policy n S M) (sym (add-suc next gap)) (
       M,
       settling_to policy S next gap M crossed so_far (λ other from before. none other from (omega arith)),
-      settled_untouched policy M (next + gap) (none (next + gap) (omega arith) (omega arith)) crossed,
+      settled_again policy M (next + gap) (none (next + gap) (omega arith) (omega arith)) crossed,
     )
 
 pub settling_more : (policy : Policy) (S : State) (next : ℕ) (M : State) (file : ℕ) (after T : State) → Crosses M [] M → IsSettling policy S next M
-    → next ≤ file → ((other : ℕ) → next ≤ other → other < file → SameFile untouched (M.files other)) → SettlesFile policy M file after
+    → next ≤ file → ((other : ℕ) → next ≤ other → other < file → IsSettled policy (M.files other)) → SettlesFile policy M file after
     → SameState after T → IsSettling policy S (file + 1) T
 settling_more policy S next M file after T crossed so_far from none settles same =
     let gap_ends : next + (file - next) ≡ file = omega arith in
@@ -228,14 +237,13 @@ settling_more policy S next M file after T crossed so_far from none settles same
           (settles.others other (λ is. omega (arith, is, past)));
     })
 
--- from here on all files are untouched
+-- from here on all files are settled
 pub all_files_settled : (policy : Policy) (S : State) (next : ℕ) (T : State) → IsSettling policy S next T
-    → ((file : ℕ) → next ≤ file → SameFile untouched (T.files file)) → SettlesAll policy S T
+    → ((file : ℕ) → next ≤ file → IsSettled policy (T.files file)) → SettlesAll policy S T
 all_files_settled policy S next T so_far none = record {
   bound = next;
   beyond = λ file past.
-      subst (λ (F : FileState). IsSettled policy F) (file_from_same (S.files file) (T.files file) (so_far.later file past))
-      (subst (λ (F : FileState). IsSettled policy F) (sym (file_from_same untouched (T.files file) (none file past))) tt);
+      subst (λ (F : FileState). IsSettled policy F) (file_from_same (S.files file) (T.files file) (so_far.later file past)) (none file past);
   settles = so_far.settles;
 }
 

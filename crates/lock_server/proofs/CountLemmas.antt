@@ -12,11 +12,10 @@ use Rattle.range_core.specs.declared.Span.{Span}
 use Rattle.range_core.specs.Ranges.{AreRuns, Covers, IsByteRange, IsConstant, IsRun, Modes}
 use Rattle.lock_server.specs.Clients.{is_within}
 use Rattle.lock_server.specs.Counting.{IsSum, IsTold, begins, begins_at, flock_locks_on, runs_of, runs_on, sum_below, told}
-use Rattle.lock_server.specs.Files.{FileState, SameFile, untouched}
+use Rattle.lock_server.specs.Files.{FileState, untouched}
 use Rattle.lock_server.specs.States.{State}
 use Rattle.lock_server.proofs.ClearedLemmas.{within_ends}
 use Rattle.lock_server.proofs.ListLemmas.{Any-cons, Any-weaker}
-use Rattle.lock_server.proofs.StateLemmas.{file_from_same}
 
 sum_zero : (count : ℕ → ℕ) → sum_below 0 count ≡ 0
 unfolding sum_below
@@ -76,7 +75,7 @@ counted : (first last : ℕ) (count : ℕ → ℕ) (owner : ℕ) → first ≤ o
 counted first last count owner from within =
     let test : is_within first last owner ≡ true = grind (arith, common_steps, nat_tests) in ap (λ (t : Bool). if t then count owner else 0) test
 
-not_counted : (first last : ℕ) (count : ℕ → ℕ) (owner : ℕ) → (is_within first last owner ≡ true → count owner ≡ 0) → count_within first last count owner ≡ 0
+pub not_counted : (first last : ℕ) (count : ℕ → ℕ) (owner : ℕ) → (is_within first last owner ≡ true → count owner ≡ 0) → count_within first last count owner ≡ 0
 not_counted first last count owner none = elim (cases_Bool (is_within first last owner)) [
   | inl test ↦ ap (λ (t : Bool). if t then count owner else 0) test ∙ none test
   | inr test ↦ ap (λ (t : Bool). if t then count owner else 0) test
@@ -252,22 +251,19 @@ IsCountingFiles S count next number = number ≡ told (sum_below next (λ file. 
 pub counting_no_file : (S : State) (count : FileState → ℕ) → IsCountingFiles S count 0 0
 counting_no_file S count = sym (ap told (sum_zero (λ file. count (S.files file))))
 
-nothing_there : (count : FileState → ℕ) → count untouched ≡ 0 → (F : FileState) → SameFile untouched F → count F ≡ 0
-nothing_there count none F same = ap count (file_from_same untouched F same) ∙ none
-
-pub counting_file : (S : State) (count : FileState → ℕ) (next number file here more : ℕ) → count untouched ≡ 0 → IsCountingFiles S count next number → next ≤ file
-    → ((other : ℕ) → next ≤ other → other < file → SameFile untouched (S.files other)) → here ≡ told (count (S.files file)) → more ≡ told (number + here)
+pub counting_file : (S : State) (count : FileState → ℕ) (next number file here more : ℕ) → IsCountingFiles S count next number → next ≤ file
+    → ((other : ℕ) → next ≤ other → other < file → count (S.files other) ≡ 0) → here ≡ told (count (S.files file)) → more ≡ told (number + here)
     → IsCountingFiles S count (file + 1) more
-counting_file S count next number file here more none so_far from between is sum =
+counting_file S count next number file here more so_far from between is sum =
     sum ∙ ap (λ (n : ℕ). told (n + here)) so_far ∙ ap (λ (n : ℕ). told (told (sum_below next (λ f. count (S.files f))) + n)) is
     ∙ told_both (sum_below next (λ f. count (S.files f))) (count (S.files file))
     ∙ sym (ap told (sum_more file (λ f. count (S.files f))
-    ∙ ap (λ (n : ℕ). n + count (S.files file)) (sum_to next file (λ f. count (S.files f)) from (λ other past before. nothing_there count none (S.files other) (between other past before)))))
+    ∙ ap (λ (n : ℕ). n + count (S.files file)) (sum_to next file (λ f. count (S.files f)) from between)))
 
-pub counting_files_end : (S : State) (count : FileState → ℕ) (next number : ℕ) → count untouched ≡ 0 → IsCountingFiles S count next number
-    → ((file : ℕ) → next ≤ file → SameFile untouched (S.files file)) → IsTold S count number
-counting_files_end S count next number none so_far rest = record {
+pub counting_files_end : (S : State) (count : FileState → ℕ) (next number : ℕ) → IsCountingFiles S count next number
+    → ((file : ℕ) → next ≤ file → count (S.files file) ≡ 0) → IsTold S count number
+counting_files_end S count next number so_far rest = record {
   total = sum_below next (λ file. count (S.files file));
-  sum = record { bound = next; beyond = λ file from. nothing_there count none (S.files file) (rest file from); is = refl };
+  sum = record { bound = next; beyond = rest; is = refl };
   is = so_far;
 }

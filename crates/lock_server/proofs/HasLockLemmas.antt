@@ -1,4 +1,4 @@
--- Whether owners from a first number to a last one have a lock: for the calls named `has_locks` of `LockFile` and `Table`.
+-- Whether owners from a first number to a last one have a lock: for the calls named `has_locks` of `LockFile` and `LockServer`.
 use Rattle.std.proofs.Common.{ℕ, ◌≡◌, ◌+◌, ◌<◌, ◌≤◌, ◌∙◌, inl, inr, sym, ap, subst, refl, arith, true, false, not, Bool, Option, Some, None, List, [], ◌∷◌, length}
 use Rattle.std.specs.Prelude.{◌↔◌, ◌==◌, ◌⊎◌, IsTrue, is_some}
 use Rattle.std.proofs.lemmas.Grind.{common_steps}

@@ -1,7 +1,7 @@
 -- Who has something on which file, after each change: for the server's fact `kept`.
 use Rattle.std.proofs.Common.{arith, ℕ, zero, suc, ◌≡◌, ◌≢◌, ◌∙◌, inl, inr, sym, ap, subst, refl, true, false, cond, not, Bool, Option, Some, None, List, [], ◌∷◌, ◌++◌}
 use Rattle.std.specs.Prelude.{◌==◌, ◌&&◌, Contains, IsTrue, filter, if◌then◌else◌}
-use Rattle.std.proofs.lemmas.Bool.{cases_eq, eqb-true}
+use Rattle.std.proofs.lemmas.Bool.{cases_Bool, cases_eq, eqb-true}
 use Rattle.std.proofs.lemmas.List.Elements.{All-cons, All-head, All-nil, All-push, All-tail, All-weaker}
 use Rattle.range_core.specs.declared.Mode.{Mode}
 use Rattle.range_core.specs.declared.Span.{Span}
@@ -399,3 +399,26 @@ sees_of_others was now file owner open_file sees any other differs = elim (cases
   | inl is ↦ ap (λ (f : ℕ). now f other) is ∙ sees.others other differs ∙ ap (λ (f : ℕ). was f other) (sym is)
   | inr elsewhere ↦ sees.elsewhere any other elsewhere
 ]
+
+-- an owner that isn't noted on a file any more and isn't kept with it: whoever isn't kept isn't noted
+pub noted_left : (old new : Holdings) (was now : ℕ → ℕ → Option ℕ) (owner file : ℕ) → Keeps old new owner file false → SeesOn was now file owner None
+    → ((other any : ℕ) → keeps old other any ≡ false → was any other ≡ None) → (other any : ℕ) → keeps new other any ≡ false → now any other ≡ None
+noted_left old new was now owner file leaves unsees noted other any unkept = elim (cases_eq any file) [
+  | inl same_file ↦ elim (cases_eq other owner) [
+    | inl same_owner ↦ ap (λ (f : ℕ). now f other) same_file ∙ ap (λ (o : ℕ). now file o) same_owner ∙ unsees.here
+    | inr differs ↦
+        ap (λ (f : ℕ). now f other) same_file ∙ unsees.others other differs ∙ ap (λ (f : ℕ). was f other) (sym same_file)
+        ∙ noted other any (sym (leaves.apart.others other any differs) ∙ unkept)
+  ]
+  | inr differs ↦ unsees.elsewhere any other differs ∙ noted other any (sym (leaves.apart.elsewhere other any differs) ∙ unkept)
+]
+
+-- the owners of a client are noted nowhere, and all others as before
+pub seen_without : (was now : ℕ → ℕ → Option ℕ) (gone : ℕ → Bool) → ((file owner : ℕ) → gone owner ≡ true → now file owner ≡ None)
+    → ((file owner : ℕ) → gone owner ≡ false → now file owner ≡ was file owner) → ForgetsSeen was now gone
+seen_without was now gone none others = record {
+  through = λ file owner. elim (cases_Bool (gone owner)) [
+    | inl is ↦ none file owner is ∙ sym (ap (λ (b : Bool). if b then None else was file owner) is)
+    | inr stays ↦ others file owner stays ∙ sym (ap (λ (b : Bool). if b then None else was file owner) stays)
+  ];
+}

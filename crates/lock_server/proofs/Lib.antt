@@ -2,6 +2,7 @@ pub mod TicketLemmas
 pub mod ListLemmas
 pub mod PairLemmas
 pub mod HoldingLemmas
+pub mod HolderLemmas
 pub mod CollectedLemmas
 pub mod LeaveLemmas
 pub mod NumberLemmas

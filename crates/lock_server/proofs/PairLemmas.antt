@@ -1,5 +1,5 @@
 -- Pairs of an owner and a file, in order: for the holdings.
-use Rattle.std.proofs.Common.{arith, ℕ, ◌≡◌, ◌≢◌, ◌<◌, ◌≤◌, ◌∙◌, inl, inr, sym, ap, refl, true, false, Bool, Option, Some, None}
+use Rattle.std.proofs.Common.{arith, ℕ, ◌≡◌, ◌≢◌, ◌-◌, ◌^◌, ◌<◌, ◌≤◌, ◌∙◌, inl, inr, sym, ap, refl, subst, true, false, Bool, Option, Some, None}
 use Rattle.std.specs.Prelude.{IsTrue}
 use Rattle.std.proofs.lemmas.Bool.{cases_eq, cases_lt}
 use Rattle.std.proofs.lemmas.Bool.Decides.{nat_tests}
@@ -9,7 +9,8 @@ use Rattle.std.specs.Ordering.{is_eq, is_gt, nat_cmp, ordering_then}
 use Rattle.std.specs.declared.cmp.Ordering.{Ordering}
 use Rattle.std.specs.declared.cmp.Ordering.TheVariants.{Less, Equal, Greater}
 use Rattle.lock_server.specs.Clients.{is_within}
-use Rattle.lock_server.specs.HoldingsView.{behind, pair_cmp}
+use Rattle.lock_server.specs.HoldingsView.{behind, behind_owner, pair_cmp}
+use Rattle.lock_server.specs.Listing.{number_behind}
 use Rattle.lock_server.specs.OpeningsView.{IsAbove}
 
 less : (x y : ℕ) → x < y → nat_cmp x y ≡ Less
@@ -102,6 +103,23 @@ pub from_owner : (first owner file : ℕ) → first ≤ owner → IsFromStart pa
 from_owner first owner file from = elim (cases_eq first owner) [
   | inl is ↦ ap (λ (o : Ordering). is_gt (ordering_then o (nat_cmp 0 file))) (same first owner is ∙ sym (same owner owner refl)) ∙ pair_from_first owner file
   | inr apart ↦ ap (λ (o : Ordering). is_gt (ordering_then o (nat_cmp 0 file))) (less first owner (omega arith))
+]
+
+-- each pair of an owner that is above comes where the pairs of these begin
+pub from_behind_owner : (above : Option ℕ) (owner file : ℕ) → number_behind above ≤ owner → IsFromStart pair_cmp (behind_owner above) (owner, file)
+from_behind_owner None owner file from = from_owner 0 owner file from
+from_behind_owner (Some last) owner file from =
+    ap (λ (o : Ordering). ordering_then o (nat_cmp (2 ^ 64 - 1) file)) (less last owner (omega arith))
+
+-- and a pair there, whose file is a number of 64 bits, is of an owner that is above
+pub owner_behind_it : (above : Option ℕ) (owner file : ℕ) → file < 2 ^ 64 → IsFromStart pair_cmp (behind_owner above) (owner, file)
+    → number_behind above ≤ owner
+owner_behind_it None owner file fits from = omega arith
+owner_behind_it (Some last) owner file fits from = elim (cases_eq owner last) [
+  | inl is ↦
+      absurd (let past : 2 ^ 64 - 1 < file = above_behind last (Some (2 ^ 64 - 1)) file (subst (λ (o : ℕ). IsFromStart pair_cmp (behind_owner (Some last)) (o, file)) is from) in
+      omega (arith, fits, past))
+  | inr differs ↦ (let further = owner_behind last (Some (2 ^ 64 - 1)) owner file from in omega (arith, further, differs))
 ]
 
 pub within_is : (first last owner : ℕ) → first ≤ owner → owner ≤ last → is_within first last owner ≡ true

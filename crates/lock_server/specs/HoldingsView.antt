@@ -1,5 +1,5 @@
 -- What is kept of the files on which owners have something (the words are this project's choice).
-use Rattle.std.specs.Prelude.{◌≡◌, ◌≢◌, ◌⊎◌, ℕ, Bool, true, false, Option, Some, None}
+use Rattle.std.specs.Prelude.{◌≡◌, ◌≢◌, ◌<◌, ◌-◌, ◌^◌, ◌⊎◌, ℕ, Bool, true, false, IsTrue, MatchOption, Option, Some, None}
 use Rattle.std.specs.BTreeSet.{btree_set_len, contains}
 use Rattle.std.specs.Ordering.{nat_cmp, ordering_then}
 use Rattle.std.specs.declared.cmp.Ordering.{Ordering}
@@ -7,7 +7,9 @@ use Rattle.std.specs.declared.ops.Bound.{Bound}
 use Rattle.std.specs.declared.ops.Bound.TheVariants.{Included, Excluded}
 use Rattle.range_core.specs.declared.Mode.{Mode}
 use Rattle.lock_server.specs.declared.holdings.Holdings.{Holdings}
-use Rattle.lock_server.specs.Holding.{IsGone}
+use Rattle.lock_server.specs.Clients.{is_within}
+use Rattle.lock_server.specs.Files.{SameFile, untouched}
+use Rattle.lock_server.specs.Holding.{HasNothing, IsGone}
 use Rattle.lock_server.specs.States.{State}
 
 -- by owner, and then by file
@@ -18,6 +20,15 @@ pair_cmp one other = ordering_then (nat_cmp one.0 other.0) (nat_cmp one.1 other.
 abbrev pub behind : ℕ → Option ℕ → Bound (ℕ × ℕ)
 behind owner None = Included (owner, 0)
 behind owner (Some file) = Excluded (owner, file)
+
+-- where the pairs of the owners begin that are above this one, where one is given
+abbrev pub behind_owner : Option ℕ → Bound (ℕ × ℕ)
+behind_owner None = behind 0 None
+behind_owner (Some owner) = behind owner (Some (2 ^ 64 - 1))
+
+-- the number is below this one, where one is given
+abbrev pub IsBelow : Option ℕ → ℕ → Type 0
+IsBelow least number = MatchOption least (Unit {0}) (λ bound. number < bound)
 
 -- whether the owner is kept with the file
 unfoldable pub keeps : Holdings → ℕ → ℕ → Bool
@@ -74,3 +85,15 @@ pub record LeavesFile (old new : Holdings) (file : ℕ) : Type 0 where
 -- an owner that isn't kept with a file has neither a lock nor a wait there, and isn't noted
 pub record AreKept (holdings : Holdings) (S : State) (through : ℕ → ℕ → Option ℕ) : Type 0 where
   pub gone : (owner file : ℕ) → keeps holdings owner file ≡ false → IsGone S through owner file
+
+-- whoever isn't kept with a file has neither a lock nor a wait there
+pub record KeepsHolders (holdings : Holdings) (S : State) : Type 0 where
+  pub nothing : (owner file : ℕ) → keeps holdings owner file ≡ false → HasNothing (S.files file) owner
+
+-- of the owners from first to last none is kept with the file
+abbrev pub AreUnkept : Holdings → ℕ → ℕ → ℕ → Type 0
+AreUnkept holdings first last file = (owner : ℕ) → IsTrue (is_within first last owner) → keeps holdings owner file ≡ false
+
+-- nor need the file be looked at for them, where it has neither a lock nor a wait
+abbrev pub HasNoneOf : Holdings → ℕ → ℕ → State → ℕ → Type 0
+HasNoneOf holdings first last S file = AreUnkept holdings first last file ⊎ SameFile untouched (S.files file)

@@ -1,5 +1,5 @@
 -- What is kept of the open files through which owners were seen (the words are this project's choice).
-use Rattle.std.specs.Prelude.{◌≡◌, ◌≢◌, ℕ, ◌<◌, if◌then◌else◌, Bool, Option, Some, None, MatchOption}
+use Rattle.std.specs.Prelude.{◌≡◌, ◌≢◌, ℕ, ◌<◌, Option, Some, None, MatchOption}
 use Rattle.std.specs.BTreeMap.{get}
 use Rattle.std.specs.Ordering.{nat_cmp}
 use Rattle.lock_server.specs.declared.openings.Openings.{Openings}
@@ -35,8 +35,3 @@ pub record HasSeen (openings : Openings) (file : ℕ) : Type 0 where
 -- the number is above the least one, where one is given
 abbrev pub IsAbove : Option ℕ → ℕ → Type 0
 IsAbove least number = MatchOption least (Unit {0}) (λ bound. bound < number)
-
--- on the file these owners are seen no more, and all others, and elsewhere, through theirs
-pub record ForgetsSeenOf (old new : ℕ → ℕ → Option ℕ) (file : ℕ) (gone : ℕ → Bool) : Type 0 where
-  pub here : (owner : ℕ) → new file owner ≡ (if gone owner then None else old file owner)
-  pub elsewhere : (other owner : ℕ) → other ≢ file → new other owner ≡ old other owner

@@ -5,6 +5,7 @@ ghost use Rattle.std.specs.BTreeSet.{contains};
 ghost use Rattle.lock_server.specs.HoldingsView.{behind as behind_of};
 
 mod collecting;
+mod finding;
 mod taking;
 
 use crate::openings::Openings;
@@ -24,7 +25,7 @@ pub struct Holdings {
 
 #[tactic(auto, unfolding(crate::specs::HoldingsView::keeps, crate::specs::HoldingsView::size))]
 impl Holdings {
-    ghost use Rattle.lock_server.specs.Clients.{is_within};
+    ghost use Rattle.lock_server.specs.Clients.{ForgetsSeen, is_within};
     ghost use Rattle.lock_server.specs.HoldingsView.{keeps, Keeps, KeepsIf, pair_cmp, SameHoldings, size, Tidies, TidiesIf};
     ghost use Rattle.lock_server.specs.OpeningsView.{IsAbove, through_at};
     ghost use Rattle.lock_server.specs.TableView.{table_state};
@@ -89,15 +90,18 @@ impl Holdings {
         }
     }
 
-    /// The owners aren't kept with any file any more. It takes no memory.
-    pub fn leave_all(&mut self, owners: Owners)
+    /// The owners aren't kept with any file any more, nor noted there. It takes no memory.
+    pub fn leave_all(&mut self, openings: &mut Openings, owners: Owners)
+        requires { (owner file : ℕ) → keeps self.old owner file ≡ false → through_at openings.old file owner ≡ None }
         ensures gone { (owner file : ℕ) → IsTrue (is_within owners.first owners.last owner) → keeps self.new owner file ≡ false }
         ensures others { (owner file : ℕ) → is_within owners.first owners.last owner ≡ false → keeps self.new owner file ≡ keeps self.old owner file }
+        ensures notes { ForgetsSeen (through_at openings.old) (through_at openings.new) (is_within owners.first owners.last) }
     {
         while let Some((owner, file)) = self.next_pair(behind(owners.first, None)) {
             if owners.last < owner {
                 return;
             }
+            openings.forget(file, owner);
             self.leave(owner, file);
         }
     }

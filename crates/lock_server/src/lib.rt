@@ -100,10 +100,11 @@ pub struct Pending {
     pub ticket: u64,
     /// Whose the lock would be (FUSE: `lock_owner`).
     pub owner: u64,
-    /// Which locks it is for.
-    pub family: Family,
     /// The bytes; for a flock lock the whole file.
     pub span: Span,
+    // Fields lie in order: the small ones come last, so that each wait is smaller by 8 bytes.
+    /// Which locks it is for.
+    pub family: Family,
     /// What the lock would allow.
     pub mode: Mode,
     /// Whether it takes part in the search for deadlocks.

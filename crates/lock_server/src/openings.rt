@@ -1,11 +1,10 @@
 //! Through which open file each owner was last seen on each file, until it is flushed there.
-ghost use Rattle.std.specs.Prelude.{◌≡◌, ◌<◌, ◌↔◌, ℕ, if◌then◌else◌, None, Some, IfSome, IfNone, IsTrue, OnOk, OnErr};
-ghost use Rattle.lock_server.specs.Clients.{ForgetsSeen, ForgetsSeenOn, is_within};
+ghost use Rattle.std.specs.Prelude.{◌≡◌, ◌<◌, ◌↔◌, ℕ, None, Some, IfSome, IfNone, IsTrue, OnOk, OnErr};
+ghost use Rattle.lock_server.specs.Clients.{ForgetsSeenOn};
 
 mod export;
 
 use crate::Memory;
-use crate::owners::Owners;
 use std::alloc::Global;
 use std::collections::BTreeMap;
 use std::ops::Bound;
@@ -47,20 +46,6 @@ impl Seen {
         self.owners.remove(&owner);
     }
 
-    /// The owners aren't known any more. It takes no memory.
-    pub fn forget_all(&mut self, owners: Owners)
-        ensures { (owner : ℕ) → open_of self.new owner ≡ (if is_within owners.first owners.last owner then None else open_of self.old owner) }
-    {
-        let mut above = owners.before();
-        while let Some(owner) = self.next_owner(above) {
-            if owners.last < owner {
-                return;
-            }
-            self.forget(owner);
-            above = Some(owner);
-        }
-    }
-
     /// Whether no owner is known.
     pub fn is_empty(&self) -> bool
         ensures { IsTrue result ↔ ((owner : ℕ) → open_of self.now owner ≡ None) }
@@ -100,7 +85,7 @@ pub struct Openings {
 #[tactic(auto, unfolding(crate::specs::OpeningsView::open_of, crate::specs::OpeningsView::through_at))]
 impl Openings {
     ghost use Rattle.lock_server.specs.Openings.{is_number, SameOpenings, SeesOn};
-    ghost use Rattle.lock_server.specs.OpeningsView.{ForgetsSeenOf, HasSeen, IsAbove, through_at};
+    ghost use Rattle.lock_server.specs.OpeningsView.{HasSeen, IsAbove, through_at};
 
     /// No owner. It takes no memory.
     pub fn new(alloc: Global) -> Openings
@@ -143,28 +128,6 @@ impl Openings {
             return;
         };
         seen.forget(owner);
-        self.sweep(file);
-    }
-
-    /// The owners aren't known any more on any file. It takes no memory, and looks at each file where some owner is known.
-    pub fn forget_owners(&mut self, owners: Owners)
-        ensures { ForgetsSeen (through_at self.old) (through_at self.new) (is_within owners.first owners.last) }
-    {
-        let mut above = None;
-        while let Some(file) = self.next_file(above) {
-            self.forget_on(file, owners);
-            above = Some(file);
-        }
-    }
-
-    /// The owners aren't known any more on the file.
-    fn forget_on(&mut self, file: u64, owners: Owners)
-        ensures { ForgetsSeenOf (through_at self.old) (through_at self.new) file (is_within owners.first owners.last) }
-    {
-        let Some(seen) = self.files.get_mut(&file) else {
-            return;
-        };
-        seen.forget_all(owners);
         self.sweep(file);
     }
 

@@ -17,7 +17,7 @@ impl LockServer {
     /// _Exit; flock(2); the order is this project's choice).
     ///
     /// Grants that weren't fetched stay, so a ticket may be told whose lock is gone. A wait that leaves is answered no more. It takes
-    /// no memory, and looks twice at each file that has a lock or a wait, and once at each file where an owner was noted.
+    /// no memory. It goes through the owners that have something for each file where one has, or, if that is less, through all files.
     pub fn forget_owners(&mut self, first: u64, last: u64)
         ensures forgets { ForgetsOwners (rules_of self.old).policy (state_of self.old) first last (state_of self.new) }
         ensures gone { (file : ℕ) → SameFile ((state_of self.new).files file) untouched → ¬ KeepsFile self.new file }
@@ -25,9 +25,9 @@ impl LockServer {
         ensures openings { ForgetsSeen (through_of self.old) (through_of self.new) (is_within first last) }
     {
         let owners = Owners { first, last };
-        self.table.forget_owners(self.rules.policy, owners);
-        self.openings.forget_owners(owners);
-        self.holdings.leave_all(owners);
+        self.table
+            .forget_owners(self.rules.policy, &self.holdings, owners);
+        self.holdings.leave_all(&mut self.openings, owners);
     }
 
     /// A file is gone, and its number may be used again: its locks and waits go, and what was noted of its owners there
@@ -47,18 +47,48 @@ impl LockServer {
     }
 
     /// Whether one of the owners from the first number to the last, both among them, has a byte lock or a flock lock on some file; a
-    /// wait is none (this project's choice). It takes no memory, and looks at each file that has a lock or a wait, until one is found.
+    /// wait is none (this project's choice). It takes no memory, and looks at the files where these owners have something, until a lock is
+    /// found.
     pub fn has_locks(&self, first: u64, last: u64) -> bool
         ensures { IsTrue result ↔ HaveLocks (state_of self.now) first last }
     {
-        self.table.has_locks(Owners { first, last })
+        let mut before = Owners { first, last }.before();
+        while let Some(owner) = self.holdings.next_owner(before) {
+            if last < owner {
+                return false;
+            }
+            if self.has_lock(owner) {
+                return true;
+            }
+            before = Some(owner);
+        }
+        false
+    }
+
+    /// Whether the owner has a byte lock or a flock lock on some file.
+    fn has_lock(&self, owner: u64) -> bool
+        ensures { IsTrue result ↔ HaveLocks (state_of self.now) owner owner }
+    {
+        let alone = Owners {
+            first: owner,
+            last: owner,
+        };
+        let mut above = None;
+        while let Some(file) = self.holdings.next_file(owner, above) {
+            if self.table.has_locks_on(file, alone) {
+                return true;
+            }
+            above = Some(file);
+        }
+        false
     }
 
     /// How many locks and waits the owners from the first number to the last have, both among them, on all files (this project's
-    /// choice). It takes no memory, and looks at each file that has a lock or a wait, and at each lock and wait of these owners.
+    /// choice). It takes no memory, goes through files as [`LockServer::forget_owners`] does, and looks at each lock and wait of these
+    /// owners.
     pub fn counts(&self, first: u64, last: u64) -> Counts
         ensures { AreCounts (state_of self.now) first last result }
     {
-        self.table.counts(Owners { first, last })
+        self.table.counts(&self.holdings, Owners { first, last })
     }
 }

@@ -1,21 +1,25 @@
 //! How many locks and waits clients have.
 ghost use Rattle.lock_server.specs.Counting.{AreCounts, AreCountsOn, told};
 ghost use Rattle.std.specs.Prelude.{◌≡◌, ◌+◌};
+ghost use Rattle.lock_server.specs.HoldingsView.{KeepsHolders};
 ghost use Rattle.lock_server.specs.TableView.{table_state};
 
 use super::Table;
 use crate::Counts;
+use crate::holdings::Holdings;
 use crate::owners::Owners;
 
 #[tactic(auto, unfolding(crate::specs::TableView::table_state, crate::specs::TableView::entry_of))]
 impl Table {
     /// How many runs, flock locks and waits the owners have on all files.
-    pub fn counts(&self, owners: Owners) -> Counts
+    pub fn counts(&self, holdings: &Holdings, owners: Owners) -> Counts
+        requires { KeepsHolders holdings.now (table_state self.now) }
         ensures { AreCounts (table_state self.now) owners.first owners.last result }
     {
+        let few = self.are_few(holdings, owners);
         let mut counts = Counts::none();
         let mut above = None;
-        while let Some(file) = self.next_file(above) {
+        while let Some(file) = self.next_file_of(holdings, owners, few, above) {
             counts = counts.plus(self.counts_on(file, owners));
             above = Some(file);
         }
