@@ -556,7 +556,7 @@ const JOURNALS: &[Row<'static>] = &[
 ];
 
 /// The same of histories, with the kind of the fault, which is that of the last line.
-const HISTORIES: [HistoryRow; 21] = [
+const HISTORIES: &[HistoryRow] = &[
     (
         b"= 1 set 0 1 w 0 9",
         Cause::Word,
@@ -762,17 +762,22 @@ fn scripts_come_out(rt: &impl Abort, alloc: Global, rows: &[Row]) -> Result<(), 
     Ok(())
 }
 
-/// The fault of a journal.
-fn fault_of_journal(alloc: Global, bytes: &[u8]) -> Result<Option<ScriptFault>, Fail> {
-    let mut reader = JournalReader::new(alloc)?;
+/// The fault that a reader tells of a journal.
+fn fault_told(reader: &mut JournalReader, bytes: &[u8]) -> Option<ScriptFault> {
     let mut line: u64 = 1;
     for text in bytes.split(|byte| *byte == b'\n') {
         if let Err(JournalFault::Grammar(cause)) = reader.next(text) {
-            return Ok(Some(ScriptFault { line, cause }));
+            return Some(ScriptFault { line, cause });
         }
         line = line.saturating_add(1);
     }
-    Ok(None)
+    None
+}
+
+/// The fault of a journal.
+fn fault_of_journal(alloc: Global, bytes: &[u8]) -> Result<Option<ScriptFault>, Fail> {
+    let mut reader = JournalReader::new(alloc)?;
+    Ok(fault_told(&mut reader, bytes))
 }
 
 /// Behind the fault of each of these scripts stands what is written here.
@@ -805,8 +810,11 @@ fn journals_by_hand(rt: HostRuntime) -> Result<(), Fail> {
 fn histories_by_hand(rt: HostRuntime) -> Result<(), Fail> {
     for (bytes, cause, told, shown, caret) in HISTORIES {
         let line = bytes.split(|byte| *byte == b'\n').count() as u64;
-        let fault = Some(ScriptFault { line, cause });
-        let row = (bytes, told, shown, caret);
+        let fault = Some(ScriptFault {
+            line,
+            cause: *cause,
+        });
+        let row = (*bytes, *told, *shown, *caret);
         comes_out(&rt, rt.alloc(), Language::History, fault, row)?;
     }
     Ok(())
@@ -841,7 +849,7 @@ type LongRow = (
 
 /// The caret stands under the 121st byte, behind what a tab is shown as; and where the line isn't shown whole, 100 bytes stand in front of the
 /// caret and 60 from it on, between dots.
-const LONG_LINES: [LongRow; 2] = [
+const LONG_LINES: &[LongRow] = &[
     (
         "\t",
         120,
@@ -862,10 +870,10 @@ const LONG_LINES: [LongRow; 2] = [
 #[test]
 fn long_lines(rt: HostRuntime) -> Result<(), Fail> {
     for (front, letters, told, (start, length, end), spaces) in LONG_LINES {
-        let line = line_of(rt.alloc(), front, 'x', letters, "")?;
-        let shown = line_of(rt.alloc(), start, 'x', length, end)?;
-        let caret = line_of(rt.alloc(), "", ' ', spaces, "^")?;
-        let row = (line.as_bytes(), told, shown.as_str(), caret.as_str());
+        let line = line_of(rt.alloc(), front, 'x', *letters, "")?;
+        let shown = line_of(rt.alloc(), start, 'x', *length, end)?;
+        let caret = line_of(rt.alloc(), "", ' ', *spaces, "^")?;
+        let row = (line.as_bytes(), *told, shown.as_str(), caret.as_str());
         scripts_come_out(&rt, rt.alloc(), &[row])?;
     }
     Ok(())
@@ -873,7 +881,7 @@ fn long_lines(rt: HostRuntime) -> Result<(), Fail> {
 
 /// Languages, lines, and what is told where a line of that number, which may be 0, is too long, and just one line of 7 bytes was kept: a file
 /// that is too long as a whole has no line 0, and a line that wasn't kept isn't shown.
-const NOT_THERE: [(Language, u64, &str); 4] = [
+const NOT_THERE: &[(Language, u64, &str)] = &[
     (
         Language::Script,
         0,
@@ -900,16 +908,18 @@ const NOT_THERE: [(Language, u64, &str); 4] = [
 #[test]
 fn lines_that_are_not_there(rt: HostRuntime) -> Result<(), Fail> {
     for (language, line, due) in NOT_THERE {
-        let cause = Cause::TooLong;
-        let fault = Some(ScriptFault { line, cause });
-        let seen = told_behind(rt.alloc(), language, b"1 exit\n", fault)?;
+        let fault = Some(ScriptFault {
+            line: *line,
+            cause: Cause::TooLong,
+        });
+        let seen = told_behind(rt.alloc(), *language, b"1 exit\n", fault)?;
         same(&rt, seen.as_str(), due);
     }
     Ok(())
 }
 
 /// Illegal journals, and what stands behind the verdict on each.
-const ILLEGAL: [(&str, &str); 9] = [
+const ILLEGAL: &[(&str, &str)] = &[
     // An answer of another kind, with what explains the one that is due.
     (
         "1#1 open 0 rw | 1#1 fd 0\n1#2 fork 2 | 1#2 ok\n1#3 setlk 0 w set 0 9 | 1#3 ok\n2#1 setlk 0 r set 5 1 | 2#1 ok\n",
@@ -966,7 +976,7 @@ fn illegal_journals_by_hand(rt: HostRuntime) -> Result<(), Fail> {
 }
 
 /// Journals, and the header lines that each lacks, where it lacks nothing else.
-const HEADLESS: [(&str, &str); 5] = [
+const HEADLESS: &[(&str, &str)] = &[
     (
         "1#1 fork 17 | 1#1 ok\n17#1 open 0 rw | 17#1 fd 0\n",
         "put \"limits wide\" before it\n",

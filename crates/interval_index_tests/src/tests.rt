@@ -1,7 +1,8 @@
 //! An index against a list of runs that is searched from its front.
 use interval_index::{Holder, Run, RunIndex};
-use range_core::{Mode, Span};
+use range_core::{Memory, Mode, Span};
 use std::alloc::Global;
+use std::fmt::Debug;
 use std::mem::size_of;
 use std::process::Abort;
 use std::test::Fail;
@@ -26,7 +27,7 @@ fn holder(owner: u64) -> Holder {
 }
 
 /// Puts a run into an index that may lack room.
-fn put(rt: &impl Abort, index: &mut RunIndex, run: Run) -> Result<(), Fail> {
+fn put(rt: &impl Abort, index: &mut RunIndex, run: Run) -> Result<(), Memory> {
     index.reserve(1)?;
     assert!(rt; run.span.first <= run.span.last);
     index.put(run);
@@ -39,43 +40,66 @@ fn conflicts(rt: &impl Abort, index: &RunIndex, owner: u64, span: Span, wanted: 
     index.is_blocked(holder(owner), span, wanted)
 }
 
+/// The two are the same.
+fn same<T: PartialEq + Debug + Drop>(rt: &impl Abort, left: T, right: T) {
+    assert_eq!(rt; left, right);
+}
+
+/// Two owners read, and a third one writes.
+fn put_three(rt: &impl Abort, index: &mut RunIndex) -> Result<(), Memory> {
+    put(rt, index, run(1, 0, 9, Mode::Read))?;
+    put(rt, index, run(2, 5, 20, Mode::Read))?;
+    put(rt, index, run(3, 30, 30, Mode::Write))
+}
+
+/// The bytes of the first reader, those behind the second one, and the writer's with the one before.
+const FRONT: Span = Span { first: 0, last: 9 };
+
+const GAP: Span = Span {
+    first: 21,
+    last: 29,
+};
+
+const LAST: Span = Span {
+    first: 29,
+    last: 30,
+};
+
+/// Owners, bytes and modes, and whether some run stands in the way.
+const CONFLICTS: &[(u64, Span, Mode, bool)] = &[
+    (1, FRONT, Mode::Read, false),
+    (1, GAP, Mode::Write, false),
+    (1, LAST, Mode::Read, true),
+    (3, LAST, Mode::Write, false),
+];
+
+/// Each of these stands in the way of what it should.
+fn stand_in_the_way(rt: &impl Abort, index: &RunIndex) {
+    for (owner, span, wanted, due) in CONFLICTS {
+        let found = conflicts(rt, index, *owner, *span, *wanted);
+        same(rt, (*owner, *span, found), (*owner, *span, *due));
+    }
+    let first = index.first(holder(1), FRONT, Mode::Write);
+    same(rt, first, Some(run(2, 5, 20, Mode::Read)));
+    let first = index.first(holder(2), FRONT, Mode::Write);
+    same(rt, first, Some(run(1, 0, 9, Mode::Read)));
+}
+
+/// The writer goes, once.
+fn writer_goes(rt: &impl Abort, index: &mut RunIndex) {
+    let writer = run(3, 30, 30, Mode::Write);
+    same(rt, index.take(30, holder(3)), Some(writer));
+    same(rt, index.take(30, holder(3)), None);
+    same(rt, conflicts(rt, index, 1, LAST, Mode::Read), false);
+}
+
 #[test]
 fn two_readers_and_a_writer(rt: HostRuntime) -> Result<(), Fail> {
-    let mut index = RunIndex::new(rt.alloc());
-    put(&rt, &mut index, run(1, 0, 9, Mode::Read))?;
-    put(&rt, &mut index, run(2, 5, 20, Mode::Read))?;
-    put(&rt, &mut index, run(3, 30, 30, Mode::Write))?;
-    assert_eq!(rt; index.len(), 3);
-
-    let front = Span { first: 0, last: 9 };
-    assert!(rt; !conflicts(&rt, &index, 1, front, Mode::Read));
-    assert_eq!(rt;
-        index.first(holder(1), front, Mode::Write),
-        Some(run(2, 5, 20, Mode::Read))
-    );
-    assert_eq!(rt;
-        index.first(holder(2), front, Mode::Write),
-        Some(run(1, 0, 9, Mode::Read))
-    );
-
-    let gap = Span {
-        first: 21,
-        last: 29,
-    };
-    assert!(rt; !conflicts(&rt, &index, 1, gap, Mode::Write));
-    let last = Span {
-        first: 29,
-        last: 30,
-    };
-    assert!(rt; conflicts(&rt, &index, 1, last, Mode::Read));
-    assert!(rt; !conflicts(&rt, &index, 3, last, Mode::Write));
-
-    assert_eq!(rt;
-        index.take(30, holder(3)),
-        Some(run(3, 30, 30, Mode::Write))
-    );
-    assert_eq!(rt; index.take(30, holder(3)), None);
-    assert!(rt; !conflicts(&rt, &index, 1, last, Mode::Read));
+    let index = &mut RunIndex::new(rt.alloc());
+    put_three(&rt, index)?;
+    same(&rt, index.len(), 3);
+    stand_in_the_way(&rt, index);
+    writer_goes(&rt, index);
     Ok(())
 }
 
@@ -170,7 +194,7 @@ fn counted(runs: &[Run], wanted: &Run) -> u64 {
 }
 
 /// The runs without the one of this key.
-fn without(alloc: Global, runs: &[Run], first: u64, holder: Holder) -> Result<Vec<Run>, Fail> {
+fn without(alloc: Global, runs: &[Run], first: u64, holder: Holder) -> Result<Vec<Run>, Memory> {
     let mut rest = Vec::new(alloc);
     for run in runs {
         if run.span.first != first || run.holder() != holder {
@@ -180,112 +204,161 @@ fn without(alloc: Global, runs: &[Run], first: u64, holder: Holder) -> Result<Ve
     Ok(rest)
 }
 
-#[test]
-fn as_a_list_does(rt: HostRuntime) -> Result<(), Fail> {
-    let mut index = RunIndex::new(rt.alloc());
-    let mut runs: Vec<Run> = Vec::new(rt.alloc());
-    let mut seed = 88172645463325252;
-    for step in 0..3000u64 {
-        seed = next(seed);
-        let wanted = spelled(seed);
-        runs = without(rt.alloc(), &runs, wanted.span.first, wanted.holder())?;
-        if step % 1000 < 600 {
-            put(&rt, &mut index, wanted)?;
-            runs.push(wanted)?;
-        } else {
-            let _ = index.take(wanted.span.first, wanted.holder());
-        }
-        seed = next(seed);
-        let asked = spelled(seed);
-        let first = first_of(&runs, &asked);
-        assert_eq!(rt;
-            index.first(asked.holder(), asked.span, asked.mode),
-            first,
-            "at step {step}"
-        );
-        assert_eq!(rt;
-            conflicts(&rt, &index, asked.number, asked.span, asked.mode),
-            first.is_some()
-        );
-        assert_eq!(rt; told(&index, &asked), counted(&runs, &asked));
-        assert_eq!(rt;
-            first_in_the_way(&rt, &index, &asked),
-            in_the_way(&runs, &asked),
-            "at step {step}"
-        );
-        assert_eq!(rt; index.len(), runs.len() as u64);
+/// The run comes into the index and into the list, or goes from both.
+fn change(
+    rt: &impl Abort,
+    alloc: Global,
+    index: &mut RunIndex,
+    runs: &mut Vec<Run>,
+    wanted: Run,
+    comes: bool,
+) -> Result<(), Memory> {
+    *runs = without(alloc, runs, wanted.span.first, wanted.holder())?;
+    if comes {
+        put(rt, index, wanted)?;
+        runs.push(wanted)?;
+    } else {
+        let _ = index.take(wanted.span.first, wanted.holder());
     }
     Ok(())
 }
 
-/// Owner n reads the bytes up to n, so the owners from n on are in the way of who writes byte n, and even ones come first.
+/// Both tell the same of what stands in the way of a run.
+fn compare(rt: &impl Abort, index: &RunIndex, runs: &[Run], asked: &Run, step: u64) {
+    let first = first_of(runs, asked);
+    let told_first = index.first(asked.holder(), asked.span, asked.mode);
+    same(rt, ("step", step, told_first), ("step", step, first));
+    let is_blocked = conflicts(rt, index, asked.number, asked.span, asked.mode);
+    same(
+        rt,
+        ("step", step, is_blocked),
+        ("step", step, first.is_some()),
+    );
+    same(rt, told(index, asked), counted(runs, asked));
+    let (least, due) = (first_in_the_way(rt, index, asked), in_the_way(runs, asked));
+    same(rt, ("step", step, least), ("step", step, due));
+    same(rt, index.len(), runs.len() as u64);
+}
+
+/// Runs that look random come and go.
+fn come_and_go(
+    rt: &impl Abort,
+    alloc: Global,
+    index: &mut RunIndex,
+    runs: &mut Vec<Run>,
+) -> Result<(), Memory> {
+    let mut seed = 88172645463325252;
+    for step in 0..3000u64 {
+        seed = next(seed);
+        change(rt, alloc, index, runs, spelled(seed), step % 1000 < 600)?;
+        seed = next(seed);
+        compare(rt, index, runs, &spelled(seed), step);
+    }
+    Ok(())
+}
+
 #[test]
-fn the_least_of_many_readers(rt: HostRuntime) -> Result<(), Fail> {
-    let mut index = RunIndex::new(rt.alloc());
+fn as_a_list_does(rt: HostRuntime) -> Result<(), Fail> {
+    let index = &mut RunIndex::new(rt.alloc());
+    let runs = &mut Vec::new(rt.alloc());
+    Ok(come_and_go(&rt, rt.alloc(), index, runs)?)
+}
+
+/// Owner n reads the bytes up to n. They come in an order that goes to and fro.
+fn put_readers(rt: &impl Abort, index: &mut RunIndex) -> Result<(), Memory> {
     index.reserve(2000)?;
     for step in 0..2000u64 {
         let owner = step.wrapping_mul(7919) % 2000;
-        put(&rt, &mut index, run(owner, 0, owner, Mode::Read))?;
+        put(rt, index, run(owner, 0, owner, Mode::Read))?;
     }
+    Ok(())
+}
+
+/// In the way of the run is first this.
+fn is_first(rt: &impl Abort, index: &RunIndex, asked: Run, due: Option<(u64, Holder)>) {
+    let first = first_in_the_way(rt, index, &asked);
+    same(rt, (asked, first), (asked, due));
+}
+
+/// Who writes a byte has the owners from its number on in the way, and even ones come first.
+fn even_ones_come_first(rt: &impl Abort, index: &RunIndex) {
     for byte in 0..1997u64 {
         let even = byte.wrapping_add(byte % 2);
-        let asked = run(5000, byte, byte, Mode::Write);
-        assert_eq!(rt;
-            first_in_the_way(&rt, &index, &asked),
-            Some((byte, holder(even)))
+        let (asked, own) = (
+            run(5000, byte, byte, Mode::Write),
+            run(even, byte, byte, Mode::Write),
         );
-        let own = run(even, byte, byte, Mode::Write);
+        is_first(rt, index, asked, Some((byte, holder(even))));
         let next = holder(even.wrapping_add(2));
-        assert_eq!(rt; first_in_the_way(&rt, &index, &own), Some((byte, next)));
+        is_first(rt, index, own, Some((byte, next)));
     }
+}
+
+#[test]
+fn the_least_of_many_readers(rt: HostRuntime) -> Result<(), Fail> {
+    let index = &mut RunIndex::new(rt.alloc());
+    put_readers(&rt, index)?;
+    even_ones_come_first(&rt, index);
     let last = run(5000, 1999, 1999, Mode::Write);
-    assert_eq!(rt;
-        first_in_the_way(&rt, &index, &last),
-        Some((1999, holder(1999)))
-    );
-    let own = run(1999, 1999, 1999, Mode::Write);
-    assert_eq!(rt; first_in_the_way(&rt, &index, &own), None);
-    let reader = run(5000, 0, 1999, Mode::Read);
-    assert_eq!(rt; first_in_the_way(&rt, &index, &reader), None);
+    is_first(&rt, index, last, Some((1999, holder(1999))));
+    is_first(&rt, index, run(1999, 1999, 1999, Mode::Write), None);
+    is_first(&rt, index, run(5000, 0, 1999, Mode::Read), None);
     Ok(())
 }
 
 /// What a block of runs takes rests on this.
 #[test]
 fn a_run_takes_32_bytes(rt: HostRuntime) {
-    assert_eq!(rt; size_of::<Run>(), 32);
+    same(&rt, size_of::<Run>(), 32);
+}
+
+/// In an order that goes to and fro: owner n has byte 3n, and the last one a read lock of all.
+fn put_many(rt: &impl Abort, index: &mut RunIndex) -> Result<(), Memory> {
+    for step in 0..19999u64 {
+        let owner = step.wrapping_mul(7919) % 19999;
+        let byte = owner.wrapping_mul(3);
+        put(rt, index, run(owner, byte, byte, Mode::Write))?;
+    }
+    put(rt, index, run(19999, 1, 60000, Mode::Read))
+}
+
+/// An owner's byte and the next are kept from it by the last one alone, which only reads; and the owner is in the last one's way.
+fn has_its_byte(rt: &impl Abort, index: &RunIndex, owner: u64) {
+    let byte = owner.wrapping_mul(3);
+    let span = Span {
+        first: byte,
+        last: byte.wrapping_add(1),
+    };
+    same(rt, conflicts(rt, index, owner, span, Mode::Read), false);
+    same(rt, conflicts(rt, index, owner, span, Mode::Write), true);
+    let first = index.first(holder(19999), span, Mode::Read);
+    same(rt, first, Some(run(owner, byte, byte, Mode::Write)));
+}
+
+/// All owners but the last one have their bytes.
+fn have_their_bytes(rt: &impl Abort, index: &RunIndex) {
+    for owner in 0..19999u64 {
+        has_its_byte(rt, index, owner);
+    }
+}
+
+/// They go.
+fn take_many(rt: &impl Abort, index: &mut RunIndex) {
+    for owner in 0..19999u64 {
+        let taken = index.take(owner.wrapping_mul(3), holder(owner));
+        same(rt, (owner, taken.is_some()), (owner, true));
+    }
 }
 
 #[test]
 fn of_many_owners(rt: HostRuntime) -> Result<(), Fail> {
-    let mut index = RunIndex::new(rt.alloc());
+    let index = &mut RunIndex::new(rt.alloc());
     index.reserve(20000)?;
-    assert_eq!(rt; index.room(), 20000);
-    // In an order that goes to and fro: owner n has byte 3n, and the last one a read lock of all.
-    for step in 0..19999u64 {
-        let owner = step.wrapping_mul(7919) % 19999;
-        let byte = owner.wrapping_mul(3);
-        put(&rt, &mut index, run(owner, byte, byte, Mode::Write))?;
-    }
-    put(&rt, &mut index, run(19999, 1, 60000, Mode::Read))?;
-    assert_eq!(rt; index.len(), 20000);
-    for owner in 0..19999u64 {
-        let byte = owner.wrapping_mul(3);
-        let span = Span {
-            first: byte,
-            last: byte.wrapping_add(1),
-        };
-        assert!(rt; !conflicts(&rt, &index, owner, span, Mode::Read));
-        assert!(rt; conflicts(&rt, &index, owner, span, Mode::Write));
-        assert_eq!(rt;
-            index.first(holder(19999), span, Mode::Read),
-            Some(run(owner, byte, byte, Mode::Write))
-        );
-    }
-    for owner in 0..19999u64 {
-        let byte = owner.wrapping_mul(3);
-        assert!(rt; index.take(byte, holder(owner)).is_some());
-    }
-    assert_eq!(rt; index.len(), 1);
+    same(&rt, index.room(), 20000);
+    put_many(&rt, index)?;
+    same(&rt, index.len(), 20000);
+    have_their_bytes(&rt, index);
+    take_many(&rt, index);
+    same(&rt, index.len(), 1);
     Ok(())
 }

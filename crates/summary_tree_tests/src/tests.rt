@@ -3,6 +3,8 @@
 ghost use Rattle.std.specs.Prelude.{true, false};
 ghost use Rattle.std.specs.Bool.{nat_le};
 
+use range_core::Memory;
+use std::fmt::Debug;
 use std::process::Abort;
 use std::test::Fail;
 use summary_tree::{Cut, Query, Summary, Tree, Walk};
@@ -112,6 +114,11 @@ fn gather(tree: &Tree<u64, Total>, steps: u64) -> (Total, bool) {
     (gathered.total, gathered.steps < steps)
 }
 
+/// The two are the same.
+fn same<T: PartialEq + Debug + Drop>(rt: &impl Abort, left: T, right: T) {
+    assert_eq!(rt; left, right);
+}
+
 /// The sum of the numbers below one.
 fn sum_below(count: u64) -> u64 {
     count.wrapping_mul(count.wrapping_sub(1)) / 2
@@ -137,91 +144,114 @@ fn pop_front(tree: &mut Tree<u64, Total>) -> Option<u64> {
     tree.take(&Front)
 }
 
-#[test]
-fn rising_numbers(rt: HostRuntime) -> Result<(), Fail> {
-    let mut tree: Tree<u64, Total> = Tree::new(rt.alloc());
+/// The numbers below this one are taken out from the front, and then none is left.
+fn pop_all(rt: &impl Abort, tree: &mut Tree<u64, Total>, count: u64) {
+    for number in 0..count {
+        same(rt, pop_front(tree), Some(number));
+        same(rt, tree.len(), count.wrapping_sub(number).wrapping_sub(1));
+    }
+    same(rt, pop_front(tree), None);
+    same(rt, (tree.len(), tree.depth()), (0, 0));
+}
+
+/// Numbers are put behind one another, with room for one at a time.
+fn rise(rt: &impl Abort, tree: &mut Tree<u64, Total>) -> Result<(), Memory> {
     for number in 0..20000u64 {
         tree.reserve(1)?;
-        assert_eq!(rt; tree.room(), 1);
-        push_back(&rt, &mut tree, number);
-        assert_eq!(rt; tree.room(), 0);
+        same(rt, tree.room(), 1);
+        push_back(rt, tree, number);
+        same(rt, tree.room(), 0);
     }
-    assert_eq!(rt; tree.len(), 20000);
+    Ok(())
+}
+
+/// What the tree then tells.
+fn tells_of_all(rt: &impl Abort, tree: &Tree<u64, Total>) {
+    same(rt, tree.len(), 20000);
     // In 1,666 nodes, since a full block leaves 12 behind: the logarithm of 1,667 to the base 4/3 is 25.8.
     assert!(rt; tree.depth() <= 25);
-    assert_eq!(rt; tree.first_where(&From(17777)), Some(17777));
-    assert_eq!(rt; tree.first_where(&From(20000)), None);
-    let (total, is_short) = gather(&tree, 400);
-    assert_eq!(rt;
-        total,
-        Total {
-            count: 20000,
-            sum: sum_below(20000)
-        }
-    );
-    assert!(rt; is_short);
+    same(rt, tree.first_where(&From(17777)), Some(17777));
+    same(rt, tree.first_where(&From(20000)), None);
+    let total = Total {
+        count: 20000,
+        sum: sum_below(20000),
+    };
+    same(rt, gather(tree, 400), (total, true));
+}
 
-    for number in 0..20000u64 {
-        assert_eq!(rt; pop_front(&mut tree), Some(number));
-    }
-    assert_eq!(rt; pop_front(&mut tree), None);
-    assert_eq!(rt; tree.len(), 0);
-    assert_eq!(rt; tree.depth(), 0);
+#[test]
+fn rising_numbers(rt: HostRuntime) -> Result<(), Fail> {
+    let tree: &mut Tree<u64, Total> = &mut Tree::new(rt.alloc());
+    rise(&rt, tree)?;
+    tells_of_all(&rt, tree);
+    pop_all(&rt, tree, 20000);
     Ok(())
+}
+
+/// Numbers are put before one another, from the one below this on down to 0.
+fn fall(rt: &impl Abort, tree: &mut Tree<u64, Total>, count: u64) {
+    for number in 0..count {
+        push_front(rt, tree, count.wrapping_sub(1).wrapping_sub(number));
+    }
+    same(rt, tree.room(), 0);
+}
+
+/// The tree has the first number from each on.
+fn finds_each(rt: &impl Abort, tree: &Tree<u64, Total>) {
+    for number in 0..3000u64 {
+        same(rt, tree.first_where(&From(number)), Some(number));
+    }
 }
 
 #[test]
 fn falling_numbers_in_room_that_is_held(rt: HostRuntime) -> Result<(), Fail> {
-    let mut tree: Tree<u64, Total> = Tree::new(rt.alloc());
+    let tree: &mut Tree<u64, Total> = &mut Tree::new(rt.alloc());
     tree.reserve(3000)?;
-    for number in 0..3000u64 {
-        push_front(&rt, &mut tree, 2999u64.wrapping_sub(number));
-    }
-    assert_eq!(rt; tree.room(), 0);
+    fall(&rt, tree, 3000);
     // In 250 nodes: the logarithm of 251 to the base 4/3 is 19.2.
     assert!(rt; tree.depth() <= 19);
-    for number in 0..3000u64 {
-        assert_eq!(rt; tree.first_where(&From(number)), Some(number));
-    }
-    for number in 0..3000u64 {
-        assert_eq!(rt; pop_front(&mut tree), Some(number));
-        assert_eq!(rt; tree.len(), 2999u64.wrapping_sub(number));
-    }
+    finds_each(&rt, tree);
+    pop_all(&rt, tree, 3000);
     Ok(())
 }
 
 /// The node of the only number is kept for the next.
+fn come_and_go(rt: &impl Abort, tree: &mut Tree<u64, Total>) {
+    for number in 0..1000u64 {
+        push_back(rt, tree, number);
+        same(rt, pop_front(tree), Some(number));
+        same(rt, tree.depth(), 0);
+    }
+}
+
+/// And the room that is left serves more than one at a time.
 #[test]
 fn a_number_that_comes_and_goes(rt: HostRuntime) -> Result<(), Fail> {
-    let mut tree: Tree<u64, Total> = Tree::new(rt.alloc());
+    let tree: &mut Tree<u64, Total> = &mut Tree::new(rt.alloc());
     tree.reserve(2000)?;
-    for number in 0..1000u64 {
-        push_back(&rt, &mut tree, number);
-        assert_eq!(rt; pop_front(&mut tree), Some(number));
-        assert_eq!(rt; tree.depth(), 0);
-    }
-    // And the room that is left serves more than one at a time.
-    for number in 0..1000u64 {
-        push_front(&rt, &mut tree, number);
-    }
-    assert_eq!(rt; tree.room(), 0);
-    assert_eq!(rt; tree.len(), 1000);
+    come_and_go(&rt, tree);
+    fall(&rt, tree, 1000);
+    same(&rt, tree.len(), 1000);
     Ok(())
 }
 
 /// With `--fail-alloc N` one of these growths is refused, and then the tree is as it was.
-#[test]
-fn a_refused_growth_leaves_the_tree_as_it_was(rt: HostRuntime) -> Result<(), Fail> {
-    let mut tree: Tree<u64, Total> = Tree::new(rt.alloc());
+fn grow(rt: &impl Abort, tree: &mut Tree<u64, Total>) -> Result<(), Memory> {
     for number in 0..70u64 {
         let room = tree.room();
         if tree.reserve(2).is_err() {
-            assert_eq!(rt; tree.room(), room);
-            assert_eq!(rt; tree.len(), number);
+            same(rt, (tree.room(), tree.len()), (room, number));
             tree.reserve(2)?;
         }
-        push_back(&rt, &mut tree, number);
+        push_back(rt, tree, number);
     }
-    assert_eq!(rt; tree.len(), 70);
+    Ok(())
+}
+
+#[test]
+fn a_refused_growth_leaves_the_tree_as_it_was(rt: HostRuntime) -> Result<(), Fail> {
+    let tree: &mut Tree<u64, Total> = &mut Tree::new(rt.alloc());
+    grow(&rt, tree)?;
+    same(&rt, tree.len(), 70);
     Ok(())
 }

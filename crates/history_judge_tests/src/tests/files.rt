@@ -1,10 +1,12 @@
 //! Files that don't touch one another (POSIX.1-2017 fcntl; flock(2)).
 use super::lines::Line::{Refused, Sent, Told};
-use super::lines::{ENOUGH, FIRST, Line, TEN, read};
+use super::lines::{ENOUGH, FIRST, Line, TEN, read, same};
 use history_core::Action::{Close, Flock, FlockWait, Gone, Set, Unlock, Wait};
 use history_core::Answer::{Busy, Done, Interrupted};
+use history_core::SearchFault;
 use history_judge::HistoryJudge;
 use range_core::Mode::{Read, Write};
+use std::process::Abort;
 use std::test::Fail;
 
 /// Two owners have the same bytes of two files, and neither is in the other's way; on one file one of them is.
@@ -63,13 +65,18 @@ const WAITS_FOR_ITS_FILE: &[Line] = &[
     Told(1, Done),
 ];
 
+/// Looks that the history may end behind these lines, with no request open.
+fn ends(rt: &impl Abort, judge: &mut HistoryJudge, lines: &[Line]) -> Result<(), SearchFault> {
+    read(rt, judge, lines);
+    same(rt, judge.may_end(ENOUGH)?, true);
+    same(rt, judge.open_requests().len(), 0);
+    Ok(())
+}
+
 #[test]
 fn of_several_files(rt: HostRuntime) -> Result<(), Fail> {
     for lines in [SAME_BYTES, ONE_FILE_ALONE, WAITS_FOR_ITS_FILE] {
-        let mut judge = HistoryJudge::new(rt.alloc(), false);
-        read(&rt, &mut judge, lines)?;
-        assert!(rt; judge.may_end(ENOUGH)?);
-        assert!(rt; judge.open_requests().is_empty());
+        ends(&rt, &mut HistoryJudge::new(rt.alloc(), false), lines)?;
     }
     Ok(())
 }
@@ -92,14 +99,18 @@ const ONE_GOES: &[Line] = &[
 ];
 
 /// A history may end where each wait on every file is held up, and may not where one isn't: its wake-up was lost.
+fn loses_a_wake_up(rt: &impl Abort, judge: &mut HistoryJudge) -> Result<(), SearchFault> {
+    read(rt, judge, TWO_WAITS);
+    same(rt, judge.may_end(ENOUGH)?, true);
+    read(rt, judge, ONE_GOES);
+    same(rt, judge.may_end(ENOUGH)?, false);
+    same(rt, judge.answer(8, Interrupted, ENOUGH), Ok(()));
+    same(rt, judge.may_end(ENOUGH)?, true);
+    Ok(())
+}
+
 #[test]
 fn a_wake_up_is_lost_on_one_file(rt: HostRuntime) -> Result<(), Fail> {
-    let mut judge = HistoryJudge::new(rt.alloc(), false);
-    read(&rt, &mut judge, TWO_WAITS)?;
-    assert!(rt; judge.may_end(ENOUGH)?);
-    read(&rt, &mut judge, ONE_GOES)?;
-    assert!(rt; !judge.may_end(ENOUGH)?);
-    assert_eq!(rt; judge.answer(8, Interrupted, ENOUGH), Ok(()));
-    assert!(rt; judge.may_end(ENOUGH)?);
-    Ok(())
+    let judge = &mut HistoryJudge::new(rt.alloc(), false);
+    Ok(loses_a_wake_up(&rt, judge)?)
 }

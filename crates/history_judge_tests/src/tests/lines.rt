@@ -2,8 +2,8 @@
 use history_core::{Action, Answer, Request};
 use history_judge::{HistoryJudge, JudgeFault};
 use range_core::Span;
+use std::fmt::Debug;
 use std::process::Abort;
-use std::test::Fail;
 
 /// A line of a history.
 #[derive(Clone, Copy, Debug)]
@@ -26,29 +26,25 @@ pub const FIRST: Span = Span { first: 0, last: 0 };
 pub const ENOUGH: usize = 1000;
 
 /// Reads these lines, each of which has its verdict; they are numbered from 1 on.
-pub fn read(rt: &impl Abort, judge: &mut HistoryJudge, lines: &[Line]) -> Result<(), Fail> {
+pub fn read(rt: &impl Abort, judge: &mut HistoryJudge, lines: &[Line]) {
     for (place, line) in lines.iter().enumerate() {
         let number = place as u64 + 1;
-        match *line {
+        let (told, due) = match *line {
             Line::Sent(id, file, owner, action) => {
                 let request = Request { id, owner, action };
-                assert_eq!(rt;
-                    judge.send(number, file, request, ENOUGH),
-                    Ok(()),
-                    "line {number}"
-                );
+                (judge.send(number, file, request, ENOUGH), Ok(()))
             }
-            Line::Told(id, answer) => {
-                assert_eq!(rt; judge.answer(id, answer, ENOUGH), Ok(()), "line {number}");
-            }
-            Line::Refused(id, answer) => {
-                assert_eq!(rt;
-                    judge.answer(id, answer, ENOUGH),
-                    Err(JudgeFault::Impossible),
-                    "line {number}"
-                );
-            }
-        }
+            Line::Told(id, answer) => (judge.answer(id, answer, ENOUGH), Ok(())),
+            Line::Refused(id, answer) => (
+                judge.answer(id, answer, ENOUGH),
+                Err(JudgeFault::Impossible),
+            ),
+        };
+        same(rt, ("line", number, told), ("line", number, due));
     }
-    Ok(())
+}
+
+/// Looks that the two are the same.
+pub fn same<T: PartialEq + Debug + Drop>(rt: &impl Abort, left: T, right: T) {
+    assert_eq!(rt; left, right);
 }
