@@ -1,13 +1,9 @@
 -- What a client knows once it has collected: for `Client::closed`, `Client::collect` and `gather`.
-use Rattle.std.proofs.lemmas.Grind.{common_steps}
-use Rattle.std.proofs.lemmas.List.{take_more_set, take_all}
-use Rattle.std.proofs.Common.{◌≡◌, ℕ, ◌+◌, ◌<◌, ◌≤◌, List, [], ◌∷◌, ◌++◌, length, take, set, sym, ap, ◌∙◌, subst, arith, length-set}
-use Rattle.lock_manager.specs.declared.request.Reply.{Reply}
-use Rattle.table_steps.specs.declared.setup.Setup.{Setup}
-use Rattle.table_steps.specs.declared.client_view.ClientView.{ClientView}
+use Rattle.call_table.proofs.Common.{common_steps, take_all, ◌≡◌, ℕ, ◌+◌, ◌<◌, ◌≤◌, List, [], ◌∷◌, ◌++◌, length, take, sym, ap, ◌∙◌, subst, arith, length-set, Reply, Setup, ClientView, SitsAs}
+use Rattle.std.proofs.lemmas.List.{take_more_set}
+use Rattle.std.proofs.Common.{set}
 use Rattle.table_steps.specs.Spelling.{answer_spelled, ReplyFits}
 use Rattle.table_steps.specs.Steps.{client_read, client_collected, IsFound, IsNextAnswer}
-use Rattle.call_table.specs.Seats.{SitsAs}
 use Rattle.call_table.specs.Shown.{IsCollected, IsNothing}
 use Rattle.call_table.proofs.InTurnLaws.{number_at}
 

@@ -1,12 +1,8 @@
 -- What the desk and a client know once they have met: for `Desk::meet`.
-use Rattle.std.proofs.Common.{arith, ◌≡◌, ℕ, Bool}
-use Rattle.std.proofs.lemmas.Grind.{common_steps}
-use Rattle.session_core.specs.declared.session.Session.{Session}
-use Rattle.table_steps.specs.declared.setup.Setup.{Setup}
-use Rattle.table_steps.specs.declared.client_view.ClientView.{ClientView}
-use Rattle.table_steps.specs.declared.desk_view.DeskView.{DeskView}
+use Rattle.call_table.proofs.Common.{arith, ◌≡◌, ℕ, common_steps, Session, Setup, ClientView, DeskView, SitsAs}
+use Rattle.std.proofs.Common.{Bool}
 use Rattle.table_steps.specs.Steps.{met_desk, met_client, before_meeting, HaveMet}
-use Rattle.call_table.specs.Seats.{SitsAs, SitsAsDesk}
+use Rattle.call_table.specs.Seats.{SitsAsDesk}
 use Rattle.call_table.specs.Desks.{IsMet}
 use Rattle.call_table.proofs.TallyLaws.{tally_here, tally_else}
 

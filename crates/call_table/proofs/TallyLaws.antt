@@ -1,7 +1,8 @@
 -- The tally of one process, and those of all others, once it has another: for `find_next`, `publish_notes` and `Desk::meet`.
-use Rattle.std.proofs.Common.{◌≡◌, ◌≢◌, ℕ, suc, zero, List, [], ◌∷◌, refl, ap}
+use Rattle.call_table.proofs.Common.{◌≡◌, ℕ, suc, zero, List, [], ◌∷◌, refl, ap, tally_at}
+use Rattle.std.proofs.Common.{◌≢◌}
 use Rattle.table_steps.specs.declared.tally.Tally.{Tally}
-use Rattle.table_steps.specs.Views.{tally_at, with_tally}
+use Rattle.table_steps.specs.Views.{with_tally}
 
 pub tally_here : (ts : List Tally) (p : ℕ) (t : Tally) → tally_at (with_tally ts p t) p ≡ t
 tally_here [] zero t = refl

@@ -1,23 +1,17 @@
 -- The answers among the notes of one more event, in the order in which they are published: for `publish_notes`.
-use Rattle.std.proofs.lemmas.Grind.{common_steps}
-use Rattle.std.proofs.Common.{◌≡◌, ◌≢◌, ℕ, ◌+◌, ◌<◌, get_or, take, drop, length-append, eq-eqb, ne_eqb, List, [], ◌∷◌, ◌++◌, length, refl, sym, ap, ◌∙◌, subst, arith, append_assoc, append-nil}
+use Rattle.call_table.proofs.Common.{common_steps, ◌≡◌, ℕ, ◌+◌, ◌<◌, get_or, take, length-append, List, [], ◌∷◌, ◌++◌, length, refl, sym, ap, ◌∙◌, subst, arith, Reply, Waits, Event, answers_to, take_more, take_all, DeskView, AreInTurn, IsProcess, tally_at}
+use Rattle.std.proofs.Common.{◌≢◌, drop, eq-eqb, ne_eqb, append_assoc, append-nil}
 use mathlib.Core.Option.{some}
 use lib.ListN.{get_elem?}
-use Rattle.lock_manager.specs.declared.request.Reply.{Reply}
 use Rattle.lock_manager.specs.declared.request.Note.{Note}
-use Rattle.lock_manager.specs.declared.request.Note.TheVariants.{Answer, Waits}
-use Rattle.session_core.specs.Event.{Event}
-use Rattle.session_core.specs.Mail.{answers_in, answers_from, answers_to}
+use Rattle.lock_manager.specs.declared.request.Note.TheVariants.{Answer}
+use Rattle.session_core.specs.Mail.{answers_in, answers_from}
 use Rattle.std.proofs.lemmas.Bool.{cases_eq}
-use Rattle.std.proofs.lemmas.List.{take_more, take_all, take-append-drop}
+use Rattle.std.proofs.lemmas.List.{take-append-drop}
 use Rattle.std.proofs.lemmas.List.Elements.{All-get_or}
 use Rattle.session_core.specs.Headline.{told_process}
-use Rattle.table_steps.specs.declared.desk_view.DeskView.{DeskView}
-use Rattle.table_steps.specs.InTurn.{AreInTurn}
-use Rattle.table_steps.specs.Places.{IsProcess}
 use Rattle.call_table.specs.Serving.{IsUntold, IsTold}
 use Rattle.table_steps.specs.Steps.{desk_told, IsNextToTell}
-use Rattle.table_steps.specs.Views.{tally_at}
 use Rattle.call_table.proofs.TallyLaws.{tally_here, tally_else}
 use Rattle.call_table.proofs.InTurnLaws.{number_at}
 

@@ -1,27 +1,18 @@
 -- What the step leaves by which a node decides; and each step; and the theorem.
-use Rattle.std.proofs.Common.{◌≡◌, ◌≢◌, ◌⊎◌, ◌∙◌, ◌≤◌, [], ℕ, List, Option, None, Some, length, arith, ap, inl, inr, refl, sym, subst}
-use Rattle.std.specs.Prelude.{slice_get}
-use Rattle.std.proofs.lemmas.Option.{slice_get_within}
-use Rattle.cluster_view.specs.declared.decision.Decision.{Decision}
-use Rattle.cluster_view.specs.declared.view.View.{View}
-use Rattle.cluster_protocol.specs.Clusters.{Cluster}
+use Rattle.cluster_protocol.proofs.Common.{◌≡◌, ◌≢◌, ◌⊎◌, ◌∙◌, ◌≤◌, [], ℕ, List, Option, None, Some, length, arith, ap, inl, inr, refl, sym, subst, slice_get, slice_get_within, Decision, View, Cluster, after, Apart, Copy, Hearing, History, Member, Message, Speaks, start_of, Taking, World, append-nil, Hello, Decides, hellos_of, IsOfView}
 use Rattle.cluster_protocol.specs.Steps.{start_copy}
-use Rattle.cluster_protocol.specs.Worlds.{after, Apart, Copy, Hearing, History, Member, Message, Speaking, Speaks, start_of, Taking, World}
+use Rattle.cluster_protocol.specs.Worlds.{Speaking}
 use Rattle.cluster_protocol.proofs.Kept.{ack, HistoryIsKept, IsAckAt, IsKeptState, IsToldLock, MemberIsKept, WorldIsKept}
-use Rattle.std.proofs.lemmas.List.{append-nil}
-use Rattle.cluster_view.specs.declared.hello.Hello.{Hello}
 use Rattle.cluster_view.specs.declared.part.Part.{Part}
 use Rattle.cluster_view.specs.declared.part.Part.TheVariants.{Suspended, Withdraws, BeginsAnew, Takes, CatchesUp, HasAll, Gives}
-use Rattle.cluster_view.specs.Decisions.{Decides}
 use Rattle.cluster_protocol.specs.Steps.{Comes, DecidesOn, in_part}
-use Rattle.cluster_protocol.specs.Worlds.{hellos_of}
 use Rattle.cluster_protocol.proofs.ExtendLemmas.{ack_on, decided_on, hellos_same, member_on, told_state_on}
 use Rattle.cluster_protocol.proofs.Kept.{Extends, IsDecided}
 use Rattle.cluster_protocol.proofs.MoveLaws.{ack_before, becomes_all, begins_hearing, same_or_not}
 use Rattle.cluster_protocol.proofs.ViewLemmas.{before_self}
 use Rattle.cluster_view.specs.Laws.{SameHellosSameDecision}
 use Rattle.cluster_protocol.specs.Outliving.{ToldLocksOutliveViews, ToldLocksStay}
-use Rattle.cluster_protocol.specs.Steps.{At_first, By_step, Dead, Decided, Entry_to, Heard, IsOfView, IsOpening, IsReached, Lack, Released, Sent, Step, Strayed, Taken, Told}
+use Rattle.cluster_protocol.specs.Steps.{At_first, By_step, Dead, Decided, Entry_to, Heard, IsOpening, IsReached, Lack, Released, Sent, Step, Strayed, Taken, Told}
 use Rattle.cluster_protocol.proofs.OutlivingLaws.{all_stay, comes_of, outlives}
 use Rattle.cluster_protocol.proofs.MoveLaws.{dies, lets_go, takes_state}
 use Rattle.cluster_protocol.proofs.HeardLaws.{hears, tells}

@@ -1,17 +1,12 @@
 -- What the step leaves by which a node enters a round.
-use Rattle.std.proofs.Common.{◌≡◌, ◌⊎◌, ◌∙◌, ◌<◌, ◌≤◌, [], ℕ, Bool, true, false, List, Option, None, Some, length, take, arith, ap, inl, inr, refl, sym, subst}
-use Rattle.std.specs.Prelude.{slice_get}
-use Rattle.std.proofs.lemmas.List.{length-take-le}
-use Rattle.cluster_view.specs.Views.{IsBefore}
-use Rattle.cluster_protocol.specs.Clusters.{Cluster, Entry}
-use Rattle.cluster_protocol.specs.Worlds.{after_all, Apart, Copy, Hearing, History, log_at, Member, Message, Phase, Speaking, Speaks, start_of, Taking, Word, World}
+use Rattle.cluster_protocol.proofs.Common.{◌≡◌, ◌⊎◌, ◌∙◌, ◌<◌, ◌≤◌, [], ℕ, Bool, true, false, List, Option, None, Some, length, take, arith, ap, inl, inr, refl, sym, subst, slice_get, length-take-le, IsBefore, Cluster, Entry, after_all, Apart, Copy, Hearing, History, log_at, Member, Message, Speaks, start_of, Taking, Word, World, Counts, kept_after_all, NoProcess}
+use Rattle.cluster_protocol.specs.Worlds.{Phase, Speaking}
 use Rattle.cluster_protocol.proofs.Kept.{ack, HistoryIsKept, InOrder, IsAckAt, IsKeptState, IsState, MemberIsKept, WorldIsKept}
 use Rattle.cluster_protocol.proofs.LateLemmas.{IsGood}
 use Rattle.cluster_protocol.proofs.LogLemmas.{begin_itself}
 use Rattle.cluster_protocol.proofs.OutlivingLaws.{in_order_both}
 use Rattle.std.specs.Prelude.{Contains}
 use Rattle.cluster_protocol.specs.Steps.{Enters, heard_late, IsTold, kept_of, left_with, messages_at}
-use Rattle.cluster_protocol.specs.Worlds.{Counts, kept_after_all, NoProcess}
 use Rattle.cluster_protocol.proofs.ExtendLemmas.{committed_on, kept_state_on}
 use Rattle.cluster_protocol.proofs.HearLemmas.{kept_all_more}
 use Rattle.cluster_protocol.proofs.LateLemmas.{good_late, own_late}

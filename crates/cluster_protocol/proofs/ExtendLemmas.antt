@@ -1,18 +1,8 @@
 -- What holds as the history goes on.
-use Rattle.std.proofs.Common.{◌≡◌, ◌∙◌, ◌<◌, ◌≤◌, ◌++◌, ◌∷◌, ◌&&◌, [], ℕ, zero, suc, Bool, List, Option, Some, length, take, arith, ap, refl, sym, subst, if◌then◌else◌}
-use Rattle.std.specs.Prelude.{slice_get}
-use Rattle.std.specs.Option.{option_to_list}
-use Rattle.std.proofs.Math.ListN.{get_or-append}
-use Rattle.std.proofs.lemmas.List.{length-append, take-append-le}
-use Rattle.std.proofs.lemmas.Option.{get_or_from_slice_get, slice_get_read, slice_get_within}
-use Rattle.cluster_view.specs.declared.decision.Decision.{Decision}
+use Rattle.cluster_protocol.proofs.Common.{◌≡◌, ◌∙◌, ◌<◌, ◌≤◌, ◌++◌, ◌∷◌, ◌&&◌, [], ℕ, zero, suc, Bool, List, Option, Some, length, take, arith, ap, refl, sym, subst, if◌then◌else◌, slice_get, option_to_list, get_or-append, length-append, get_or_from_slice_get, slice_get_read, slice_get_within, Decision, Hello, View, Decides, IsBefore, Cluster, Entry, IsBeginning, Purge, after_all, Copy, Counts, hello_in, History, log_at, Member, Message, Speaks, start_of, Word}
+use Rattle.std.proofs.lemmas.List.{take-append-le}
 use Rattle.cluster_view.specs.declared.decision.Decision.TheVariants.{NoView, Begins, GoesOn}
-use Rattle.cluster_view.specs.declared.hello.Hello.{Hello}
-use Rattle.cluster_view.specs.declared.view.View.{View}
-use Rattle.cluster_view.specs.Decisions.{Decides}
-use Rattle.cluster_view.specs.Views.{IsBefore}
-use Rattle.cluster_protocol.specs.Clusters.{Cluster, Entry, IsBeginning, Purge}
-use Rattle.cluster_protocol.specs.Worlds.{after_all, Copy, Counts, hello_in, hellos_below, History, log_at, log_told, loses, Member, Message, purges_below, Speaks, start_by, start_of, Word}
+use Rattle.cluster_protocol.specs.Worlds.{hellos_below, log_told, loses, purges_below, start_by}
 use Rattle.cluster_protocol.proofs.Kept.{ack, AckIsKept, Extends, InOrder, IsAckAt, IsCommitted, IsDecided, IsHearing, IsKeptState, IsState, IsToldLock, IsToldState, MemberIsKept, Reaches}
 
 -- a message stays at its place

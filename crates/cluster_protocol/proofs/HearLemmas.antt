@@ -1,10 +1,8 @@
 -- What messages make of a log, and of how much of it is kept.
-use Rattle.std.proofs.Common.{◌≡◌, ◌∙◌, ◌≤◌, ◌++◌, ◌∷◌, ◌&&◌, ◌==◌, [], ℕ, Bool, true, false, List, Option, None, Some, length, take, drop, max, nat_le, arith, ap, refl, sym, subst, if◌then◌else◌}
-use Rattle.std.proofs.lemmas.Bool.Decides.{nat_tests}
+use Rattle.cluster_protocol.proofs.Common.{◌≡◌, ◌∙◌, ◌≤◌, ◌++◌, ◌∷◌, ◌&&◌, [], ℕ, Bool, true, false, List, Option, None, Some, length, take, max, arith, ap, refl, sym, subst, if◌then◌else◌, nat_tests, View, Cluster, Entry, IsBeginning, same_view, Acknowledges, after, after_all, Asks, Content, kept_after, kept_after_all, Message, Purges}
+use Rattle.std.proofs.Common.{◌==◌, drop, nat_le}
 use Rattle.std.proofs.lemmas.List.{take-append-drop, take-take}
-use Rattle.cluster_view.specs.declared.view.View.{View}
-use Rattle.cluster_protocol.specs.Clusters.{Cluster, Entry, IsBeginning, same_view}
-use Rattle.cluster_protocol.specs.Worlds.{Acknowledges, after, after_all, Asks, Content, entry_of, kept_after, kept_after_all, Message, Purges, taken, vouched}
+use Rattle.cluster_protocol.specs.Worlds.{entry_of, taken, vouched}
 use Rattle.cluster_protocol.proofs.LogLemmas.{begin_front, begin_if, begin_itself, begin_short, begin_take, begin_through}
 
 pub taken_longer : (cluster : Cluster) (log : List Entry) (entry : Option Entry) → IsBeginning log (taken cluster log entry)

@@ -1,13 +1,7 @@
 -- What the steps leave by which a node hears a message, and tells its program a lock.
-use Rattle.std.proofs.Common.{◌≡◌, ◌≢◌, ◌⊎◌, ◌∙◌, ◌+◌, ◌<◌, ◌≤◌, ◌++◌, ◌∷◌, [], ℕ, true, false, List, Some, length, get_or, take, arith, ap, inl, inr, refl, sym, subst}
-use Rattle.std.specs.Prelude.{slice_get}
-use Rattle.std.proofs.lemmas.List.{take_more, length-take-le}
-use Rattle.std.proofs.lemmas.Option.{get_or_from_slice_get, slice_get_within}
-use Rattle.cluster_view.specs.declared.view.View.{View}
-use Rattle.cluster_view.specs.Views.{IsBefore}
-use Rattle.cluster_protocol.specs.Clusters.{Cluster, Entry, IsBeginning}
+use Rattle.cluster_protocol.proofs.Common.{◌≡◌, ◌≢◌, ◌⊎◌, ◌∙◌, ◌+◌, ◌<◌, ◌≤◌, ◌++◌, ◌∷◌, [], ℕ, true, false, List, Some, length, get_or, take, arith, ap, inl, inr, refl, sym, subst, slice_get, length-take-le, get_or_from_slice_get, slice_get_within, View, IsBefore, Cluster, Entry, IsBeginning, Acknowledges, after, after_all, Apart, Copy, Hearing, History, kept_after, log_at, Message, Speaks, start_of, Taking, World, same_view, Asks, Content, NoProcess, Purges, nat_tests, slice_get_read}
+use Rattle.std.proofs.lemmas.List.{take_more}
 use Rattle.cluster_protocol.specs.Steps.{Hears}
-use Rattle.cluster_protocol.specs.Worlds.{Acknowledges, after, after_all, Apart, Copy, Hearing, History, kept_after, log_at, Message, Speaks, start_of, Taking, World}
 use Rattle.cluster_protocol.proofs.HearLemmas.{after_all_append, after_longer, kept_more, own_kept}
 use Rattle.cluster_protocol.proofs.Kept.{ack, HistoryIsKept, InOrder, IsAckAt, IsKeptState, IsToldLock, WorldIsKept}
 use Rattle.cluster_protocol.proofs.LateLemmas.{good_after}
@@ -15,15 +9,11 @@ use Rattle.cluster_protocol.proofs.LogLemmas.{begin_itself, begin_same, begin_sh
 use Rattle.cluster_protocol.proofs.OutlivingLaws.{in_order_both}
 use Rattle.cluster_protocol.proofs.MoveLaws.{alone, good_of, ordered, with_told}
 use Rattle.cluster_protocol.proofs.HearLemmas.{same_view_is}
-use Rattle.cluster_protocol.specs.Clusters.{same_view}
 use Rattle.cluster_protocol.specs.Steps.{Tells, vouches}
-use Rattle.cluster_protocol.specs.Worlds.{Asks, Content, NoProcess, Purges}
 use Rattle.std.specs.Prelude.{Any}
-use Rattle.std.proofs.lemmas.Bool.Decides.{nat_tests}
 use Rattle.std.proofs.lemmas.List.{get_or-take, length-take}
 use Rattle.std.specs.List.{list_any}
 use Rattle.std.proofs.lemmas.List.Folds.{Any-from_list_any}
-use Rattle.std.proofs.lemmas.Option.{slice_get_read}
 
 -- the log after the next message
 pub next_log : (cluster : Cluster) (history : History) (round n : ℕ) (log : List Entry) (message : Message) → log ≡ log_at cluster history round n

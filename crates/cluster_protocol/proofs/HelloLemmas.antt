@@ -1,15 +1,11 @@
 -- The HELLOs of a round, by node.
-use Rattle.std.proofs.Common.{◌≡◌, ◌⊎◌, ◌∙◌, ◌+◌, ◌*◌, ◌-◌, ◌<◌, ◌≤◌, ◌++◌, ◌∷◌, [], ℕ, zero, suc, Bool, true, false, List, Option, None, Some, All, length, get_or, arith, ap, inl, inr, refl, sym, subst, if◌then◌else◌}
+use Rattle.cluster_protocol.proofs.Common.{◌≡◌, ◌⊎◌, ◌∙◌, ◌+◌, ◌*◌, ◌<◌, ◌≤◌, ◌++◌, ◌∷◌, [], ℕ, zero, suc, Bool, true, false, List, Option, None, Some, length, get_or, arith, ap, inl, inr, refl, sym, subst, if◌then◌else◌, option_to_list, get_or-append, length-append, Hello, View, Cluster, weight, Copy, hello_in, NoProcess, Speaks, Word}
+use Rattle.std.proofs.Common.{◌-◌, All}
 use Rattle.std.specs.Prelude.{Any}
-use Rattle.std.specs.Option.{option_to_list}
-use Rattle.std.proofs.Math.ListN.{get_or-append}
-use Rattle.std.proofs.lemmas.List.{get_or-append-add, length-append}
+use Rattle.std.proofs.lemmas.List.{get_or-append-add}
 use Rattle.std.proofs.lemmas.List.Sums.{sum_by-append}
-use Rattle.cluster_view.specs.declared.hello.Hello.{Hello}
-use Rattle.cluster_view.specs.declared.view.View.{View}
 use Rattle.cluster_view.specs.Votes.{IsMajority, votes_of}
-use Rattle.cluster_protocol.specs.Clusters.{Cluster, weight}
-use Rattle.cluster_protocol.specs.Worlds.{Copy, hello_in, hello_of, hellos_below, NoProcess, Speaks, Word}
+use Rattle.cluster_protocol.specs.Worlds.{hello_of, hellos_below}
 
 -- there is a HELLO, and it passes
 abbrev pub passes : (Hello → Bool) → Option Hello → Bool

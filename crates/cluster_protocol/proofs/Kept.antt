@@ -1,12 +1,7 @@
 -- What holds at each moment: for `told_locks_outlive_views`.
-use Rattle.std.specs.Prelude.{◌≡◌, ◌≢◌, ◌<◌, ◌≤◌, ◌*◌, ◌⊎◌, ◌++◌, ℕ, Bool, true, List, Option, None, Some, length, slice_get}
-use Rattle.cluster_view.specs.declared.decision.Decision.{Decision}
-use Rattle.cluster_view.specs.declared.view.View.{View}
-use Rattle.cluster_view.specs.Decisions.{Decides}
-use Rattle.cluster_view.specs.Views.{IsBefore}
-use Rattle.cluster_protocol.specs.Clusters.{Cluster, Entry, IsBeginning, weight}
-use Rattle.cluster_protocol.specs.Steps.{IsOfView}
-use Rattle.cluster_protocol.specs.Worlds.{Acknowledges, Apart, Copy, Counts, hellos_of, Hearing, History, log_at, Member, Message, NoProcess, Phase, Speaks, start_of, Taking, Word, World}
+use Rattle.cluster_protocol.proofs.Common.{slice_get, Decision, View, Decides, IsBefore, Cluster, Entry, IsBeginning, weight, IsOfView, Acknowledges, Apart, Copy, Counts, hellos_of, Hearing, History, log_at, Member, Message, NoProcess, Speaks, start_of, Taking, Word, World}
+use Rattle.std.specs.Prelude.{◌≡◌, ◌≢◌, ◌<◌, ◌≤◌, ◌*◌, ◌⊎◌, ◌++◌, ℕ, Bool, true, List, Option, None, Some, length}
+use Rattle.cluster_protocol.specs.Worlds.{Phase}
 
 -- the log is a beginning of the round's log after so many messages without a hole
 pub record InOrder (cluster : Cluster) (history : History) (round : ℕ) (log : List Entry) : Type 0 where

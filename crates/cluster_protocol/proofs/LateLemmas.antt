@@ -1,13 +1,8 @@
 -- What is kept of a log, whichever messages of the order are heard.
-use Rattle.std.proofs.Common.{◌≡◌, ◌⊎◌, ◌∙◌, ◌<◌, ◌≤◌, ◌++◌, ◌∷◌, ◌&&◌, ◌==◌, [], ℕ, zero, suc, Bool, true, false, List, Option, None, Some, length, get_or, take, max, nat_le, arith, ap, inl, inr, refl, sym, subst, if◌then◌else◌}
-use Rattle.std.specs.Prelude.{slice_get}
-use Rattle.std.specs.Option.{option_to_list}
-use Rattle.std.proofs.lemmas.Bool.Decides.{nat_tests}
-use Rattle.std.proofs.lemmas.List.{length-take-le}
-use Rattle.cluster_view.specs.declared.view.View.{View}
-use Rattle.cluster_protocol.specs.Clusters.{Cluster, Entry, IsBeginning, same_view}
+use Rattle.cluster_protocol.proofs.Common.{◌≡◌, ◌⊎◌, ◌∙◌, ◌<◌, ◌≤◌, ◌++◌, ◌∷◌, ◌&&◌, [], ℕ, zero, suc, Bool, true, false, List, Option, None, Some, length, get_or, take, max, arith, ap, inl, inr, refl, sym, subst, if◌then◌else◌, slice_get, option_to_list, nat_tests, length-take-le, View, Cluster, Entry, IsBeginning, same_view, Acknowledges, after, after_all, Asks, Content, History, kept_after, kept_after_all, log_at, Message, Purges, start_of}
+use Rattle.std.proofs.Common.{◌==◌, nat_le}
 use Rattle.cluster_protocol.specs.Steps.{messages_at}
-use Rattle.cluster_protocol.specs.Worlds.{Acknowledges, after, after_all, Asks, Content, entry_of, History, kept_after, kept_after_all, log_at, Message, Purges, start_of, taken, vouched}
+use Rattle.cluster_protocol.specs.Worlds.{entry_of, taken, vouched}
 use Rattle.cluster_protocol.proofs.HearLemmas.{after_longer, kept_all_more, own_kept, same_view_is, taken_longer}
 use Rattle.cluster_protocol.proofs.HelloLemmas.{le_or_lt}
 use Rattle.cluster_protocol.proofs.Kept.{HistoryIsKept, InOrder}

@@ -1,3 +1,4 @@
+mod Common
 pub mod VoteLaws
 pub mod LogLemmas
 pub mod HearLemmas

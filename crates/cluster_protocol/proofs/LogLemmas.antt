@@ -1,9 +1,9 @@
 -- Logs that are beginnings of others.
-use Rattle.std.proofs.Common.{◌≡◌, ◌∙◌, ◌≤◌, ◌++◌, ◌∷◌, [], ℕ, Bool, true, false, List, length, take, drop, arith, ap, inl, inr, refl, sym, subst, if◌then◌else◌}
+use Rattle.cluster_protocol.proofs.Common.{◌≡◌, ◌∙◌, ◌≤◌, ◌++◌, ◌∷◌, [], ℕ, Bool, true, false, List, length, take, arith, ap, inl, inr, refl, sym, subst, if◌then◌else◌, append-nil, length-append, View, Entry, IsBeginning, Purge}
+use Rattle.std.proofs.Common.{drop}
 use Rattle.std.proofs.Math.Seq.{take-append_seam}
-use Rattle.std.proofs.lemmas.List.{append-nil, append_assoc, length-append, take-append-drop, take-append-le}
-use Rattle.cluster_view.specs.declared.view.View.{View}
-use Rattle.cluster_protocol.specs.Clusters.{Entry, IsBeginning, IsPurgedIn, Purge}
+use Rattle.std.proofs.lemmas.List.{append_assoc, take-append-drop, take-append-le}
+use Rattle.cluster_protocol.specs.Clusters.{IsPurgedIn}
 use Rattle.cluster_protocol.specs.Outliving.{Stays}
 
 pub begin_itself : (log : List Entry) → IsBeginning log log

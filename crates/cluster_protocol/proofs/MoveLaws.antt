@@ -1,11 +1,6 @@
 -- What steps of one node leave that say nothing and send nothing.
-use Rattle.std.proofs.Common.{◌≡◌, ◌≢◌, ◌⊎◌, ◌∙◌, ◌<◌, ℕ, Option, None, Some, length, take, arith, inl, inr, refl, sym, subst}
-use Rattle.cluster_view.specs.declared.decision.Decision.{Decision}
-use Rattle.cluster_view.specs.declared.view.View.{View}
-use Rattle.cluster_view.specs.Views.{IsBefore}
-use Rattle.cluster_protocol.specs.Clusters.{Cluster}
+use Rattle.cluster_protocol.proofs.Common.{◌≡◌, ◌≢◌, ◌⊎◌, ◌∙◌, ◌<◌, ℕ, Option, None, Some, length, take, arith, inl, inr, refl, sym, subst, Decision, View, IsBefore, Cluster, Apart, Copy, Hearing, History, log_at, Member, Speaks, start_of, Taking, World}
 use Rattle.cluster_protocol.specs.Steps.{Becomes, Dies, LetsGo, start_copy, TakesState}
-use Rattle.cluster_protocol.specs.Worlds.{Apart, Copy, Hearing, History, log_at, Member, Speaks, start_of, Taking, World}
 use Rattle.cluster_protocol.proofs.Kept.{HistoryIsKept, IsAckAt, IsKeptState, IsToldLock, MemberIsKept, WorldIsKept}
 use Rattle.cluster_protocol.proofs.LateLemmas.{IsGood}
 use Rattle.cluster_protocol.proofs.LogLemmas.{begin_itself, begin_through, take_begin}

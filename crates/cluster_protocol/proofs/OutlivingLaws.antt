@@ -1,20 +1,14 @@
 -- What was told outlives each later view, given what holds at each moment.
-use Rattle.std.proofs.Common.{◌≡◌, ◌⊎◌, ◌∙◌, ◌*◌, ◌<◌, ◌≤◌, ◌++◌, ◌∷◌, ◌&&◌, [], ℕ, zero, suc, Bool, true, false, List, Option, None, Some, length, arith, ap, inl, inr, refl, sym, subst, max, if◌then◌else◌}
-use Rattle.std.proofs.lemmas.Bool.Decides.{nat_tests}
+use Rattle.cluster_protocol.proofs.Common.{◌≡◌, ◌⊎◌, ◌∙◌, ◌*◌, ◌<◌, ◌≤◌, ◌++◌, ◌∷◌, ◌&&◌, [], ℕ, zero, suc, Bool, true, false, List, Option, None, Some, length, arith, ap, inl, inr, refl, sym, subst, max, if◌then◌else◌, nat_tests, Decision, Hello, View, Decides, IsBefore, Cluster, Entry, IsBeginning, Purge, same_view, weight, IsOfView, Copy, Counts, hello_in, hellos_of, History, log_at, NoProcess, Speaks, start_of, Word}
 use Rattle.cluster_view.specs.declared.base.Base.{Base}
-use Rattle.cluster_view.specs.declared.decision.Decision.{Decision}
 use Rattle.cluster_view.specs.declared.decision.Decision.TheVariants.{NoView, Begins, GoesOn}
-use Rattle.cluster_view.specs.declared.hello.Hello.{Hello}
-use Rattle.cluster_view.specs.declared.view.View.{View}
 use Rattle.cluster_view.specs.Bases.{base_at, IsBehind}
-use Rattle.cluster_view.specs.Decisions.{ComesTo, Decides}
+use Rattle.cluster_view.specs.Decisions.{ComesTo}
 use Rattle.cluster_view.specs.Hellos.{Tells, tells}
-use Rattle.cluster_view.specs.Views.{IsBefore}
 use Rattle.cluster_view.specs.Votes as hello_votes
-use Rattle.cluster_protocol.specs.Clusters.{Cluster, Entry, IsBeginning, IsPurgedIn, Purge, same_view, weight}
+use Rattle.cluster_protocol.specs.Clusters.{IsPurgedIn}
 use Rattle.cluster_protocol.specs.Outliving.{Outlives, Stays}
-use Rattle.cluster_protocol.specs.Steps.{IsOfView}
-use Rattle.cluster_protocol.specs.Worlds.{Copy, Counts, hello_in, hello_of, hellos_of, History, log_at, log_told, loses, NoProcess, purges_below, Speaks, start_by, start_of, Word}
+use Rattle.cluster_protocol.specs.Worlds.{hello_of, log_told, loses, purges_below, start_by}
 use Rattle.cluster_protocol.proofs.HearLemmas.{after_more, same_view_is}
 use Rattle.cluster_protocol.proofs.HelloLemmas.{all_below, any_below, majority_below, passed, passes}
 use Rattle.cluster_protocol.proofs.Kept.{HistoryIsKept, InOrder, IsCommitted, IsDecided, IsState, IsToldLock, Reaches}

@@ -1,16 +1,8 @@
 -- What the steps leave by which a message comes into the order of a round.
-use Rattle.std.proofs.Common.{◌≡◌, ◌≢◌, ◌⊎◌, ◌∙◌, ◌<◌, ◌≤◌, ◌++◌, ◌∷◌, [], ℕ, List, Some, length, get_or, arith, ap, inl, inr, refl, sym, subst}
-use Rattle.std.specs.Prelude.{slice_get}
-use Rattle.std.proofs.lemmas.Option.{get_or_from_slice_get, slice_get_within}
-use Rattle.cluster_protocol.specs.Clusters.{Cluster, Entry}
-use Rattle.cluster_protocol.specs.Worlds.{Acknowledges, Apart, Copy, Hearing, History, log_at, Member, Message, Speaks, World}
+use Rattle.cluster_protocol.proofs.Common.{◌≡◌, ◌≢◌, ◌⊎◌, ◌∙◌, ◌<◌, ◌≤◌, ◌++◌, ◌∷◌, [], ℕ, List, Some, length, get_or, arith, ap, inl, inr, refl, sym, subst, slice_get, get_or_from_slice_get, slice_get_within, Cluster, Entry, Acknowledges, Apart, Copy, Hearing, History, log_at, Member, Message, Speaks, World, get_or-append, append-nil, length-append, slice_get_read, Asks, Content, Purges}
 use Rattle.cluster_protocol.proofs.Kept.{ack, AckIsKept, HistoryIsKept, IsAckAt, IsOwnAck, MemberIsKept, WorldIsKept}
-use Rattle.std.proofs.Math.ListN.{get_or-append}
 use Rattle.std.proofs.Math.Seq.{get_or-append_seam}
-use Rattle.std.proofs.lemmas.List.{append-nil, length-append}
-use Rattle.std.proofs.lemmas.Option.{slice_get_read}
 use Rattle.cluster_protocol.specs.Steps.{MaySend, Puts, Sends, Strays}
-use Rattle.cluster_protocol.specs.Worlds.{Asks, Content, Purges}
 use Rattle.cluster_protocol.proofs.ExtendLemmas.{ack_on, decided_on, hearing_on, kept_state_on, log_same, member_on, order_longer, told_lock_on, told_state_on}
 use Rattle.cluster_protocol.proofs.Kept.{Extends}
 use Rattle.cluster_protocol.proofs.MoveLaws.{ordered, same_or_not}

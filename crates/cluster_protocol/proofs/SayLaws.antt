@@ -1,15 +1,7 @@
 -- What the steps leave by which a node says a word, or decides.
-use Rattle.std.proofs.Common.{◌≡◌, ◌≢◌, ◌⊎◌, ◌∙◌, ◌<◌, [], ℕ, true, List, None, Some, ap, inl, inr, sym, subst}
-use Rattle.std.specs.Prelude.{slice_get}
-use Rattle.cluster_view.specs.declared.decision.Decision.{Decision}
-use Rattle.cluster_view.specs.declared.view.View.{View}
-use Rattle.cluster_view.specs.Views.{IsBefore}
-use Rattle.cluster_protocol.specs.Clusters.{Cluster}
-use Rattle.cluster_protocol.specs.Worlds.{Apart, Copy, Hearing, History, Member, Message, Speaks, Taking, Word, World}
+use Rattle.cluster_protocol.proofs.Common.{◌≡◌, ◌≢◌, ◌⊎◌, ◌∙◌, ◌<◌, [], ℕ, true, List, None, Some, ap, inl, inr, sym, subst, slice_get, Decision, View, IsBefore, Cluster, Apart, Copy, Hearing, History, Member, Message, Speaks, Taking, Word, World, append-nil, NoProcess}
 use Rattle.cluster_protocol.proofs.Kept.{ack, HistoryIsKept, IsAckAt, MemberIsKept, WorldIsKept}
-use Rattle.std.proofs.lemmas.List.{append-nil}
 use Rattle.cluster_protocol.specs.Steps.{Lacks, Says}
-use Rattle.cluster_protocol.specs.Worlds.{NoProcess}
 use Rattle.cluster_protocol.proofs.ExtendLemmas.{ack_on, decided_on, member_on, told_state_on}
 use Rattle.cluster_protocol.proofs.Kept.{Extends, IsToldState, Reaches}
 use Rattle.cluster_protocol.proofs.MoveLaws.{becomes_all, same_or_not}

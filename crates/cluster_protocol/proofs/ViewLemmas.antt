@@ -1,7 +1,5 @@
 -- The order of views.
-use Rattle.std.proofs.Common.{◌≡◌, ◌⊎◌, ◌+◌, ◌<◌, ◌≤◌, ℕ, zero, suc, arith, inl, inr, subst}
-use Rattle.cluster_view.specs.declared.view.View.{View}
-use Rattle.cluster_view.specs.Views.{IsBefore}
+use Rattle.cluster_protocol.proofs.Common.{◌≡◌, ◌⊎◌, ◌+◌, ◌<◌, ◌≤◌, ℕ, zero, suc, arith, inl, inr, subst, View, IsBefore}
 
 pub before_trans : (a b c : View) → IsBefore a b → IsBefore b c → IsBefore a c
 before_trans a b c p q = grind arith

@@ -1,6 +1,6 @@
 -- Two majorities meet.
-use Rattle.std.proofs.Common.{◌≡◌, ◌+◌, ◌*◌, ◌<◌, ◌≤◌, ℕ, zero, suc, Bool, true, false, arith, refl, if◌then◌else◌}
-use Rattle.cluster_protocol.specs.Clusters.{everyone, weight}
+use Rattle.cluster_protocol.proofs.Common.{◌≡◌, ◌+◌, ◌*◌, ◌<◌, ◌≤◌, ℕ, zero, suc, Bool, true, false, arith, refl, if◌then◌else◌, weight}
+use Rattle.cluster_protocol.specs.Clusters.{everyone}
 
 -- a node is in both sets
 abbrev pub IsInBoth : (ℕ → Bool) → (ℕ → Bool) → ℕ → Type 0

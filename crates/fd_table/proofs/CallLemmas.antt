@@ -1,17 +1,9 @@
 -- From what a call leaves to what the definition says of it: for `Tables::close_fd`, `Tables::dup`, `Tables::dup2` and others.
-use Rattle.std.proofs.lemmas.Grind.{common_steps}
-use Rattle.std.proofs.Common.{◌≡◌, ℕ, ℤ, pos, ◌<◌, true, cond, eqb, List, length, get_or, set, Some, None, Ok, IsSome, refl, ap, ◌∙◌, arith}
-use Rattle.std.specs.Option.{option_map}
-use Rattle.std.proofs.lemmas.Bool.{cases_eq, eq-eqb, ne_eqb, lt-ltb}
-use Rattle.std.proofs.lemmas.List.{get_or-set_same, get_or-set_other}
-use Rattle.slab.specs.Slab.{Slab, get}
-use Rattle.fd_table.specs.declared.tables.Opened.{Opened}
-use Rattle.fd_table.specs.declared.Limits.{Limits}
-use Rattle.fd_table.specs.Rows.{Keys, row_at, has_row, key_at, IsLowestClosed, AreAllOpen}
-use Rattle.fd_table.specs.Soundness.{AreRows, AreEntries}
-use Rattle.fd_table.specs.Descriptors.{Descriptors, SameDescriptors, IsFull, IsLowestFree, with_offset, with_size}
+use Rattle.fd_table.proofs.Common.{common_steps, ◌≡◌, ℕ, pos, ◌<◌, true, cond, eqb, List, length, get_or, set, Some, None, IsSome, refl, ap, ◌∙◌, arith, option_map, cases_eq, eq-eqb, ne_eqb, lt-ltb, get_or-set_same, get_or-set_other, Slab, get, Opened, Limits, Keys, row_at, has_row, key_at, AreRows, AreEntries, Descriptors, SameDescriptors, View, Numbered, numbered, ViewStandsFor, seen_in}
+use Rattle.std.proofs.Common.{ℤ, Ok}
+use Rattle.fd_table.specs.Rows.{IsLowestClosed, AreAllOpen}
+use Rattle.fd_table.specs.Descriptors.{IsFull, IsLowestFree, with_offset, with_size}
 use Rattle.fd_table.specs.Calls.{Refers, SeekGives, ResizeGives}
-use Rattle.fd_table.specs.TablesView.{View, Numbered, numbered, ViewStandsFor, seen_in}
 use Rattle.fd_table.proofs.ViewLemmas.{SameRest, seen_some, seen_none, moved, moved_offset, resized}
 use Rattle.fd_table.proofs.EntryLemmas.{some_is, value_of_some, seen_by}
 

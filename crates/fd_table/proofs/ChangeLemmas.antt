@@ -1,19 +1,7 @@
 -- The entries, and what is seen of them, where a descriptor gets a key or is closed: for `add_users`, `Tables::close_one`, `Tables::fork` and others.
-use Rattle.std.proofs.Common.{rules, ◌≡◌, ◌≢◌, ℕ, ◌+◌, ◌-◌, ◌<◌, ◌≤◌, cond, List, length, Option, Some, None, refl, sym, ap, ◌∙◌, inl, inr, arith}
-use Rattle.std.proofs.lemmas.Grind.{common_steps}
-use Rattle.std.specs.Option.{option_map}
-use Rattle.std.proofs.lemmas.Bool.{cases_lt, eq-eqb, ne_eqb}
-use Rattle.std.proofs.lemmas.Option.{same_Some, none-some}
-use Rattle.slab.specs.Slab.{Slab, get, Updates}
+use Rattle.fd_table.proofs.Common.{rules, ◌≡◌, ◌≢◌, ℕ, ◌+◌, ◌<◌, ◌≤◌, cond, List, length, Option, Some, None, refl, sym, ap, ◌∙◌, inl, inr, arith, common_steps, option_map, cases_lt, eq-eqb, ne_eqb, same_Some, none-some, Slab, get, Updates, Limits, FILES, Opened, Descriptors, without_one, ClosesOne, Keys, row_at, key_at, with_key, is_place, users_of, AreRows, AreEntries, View, Numbered, numbered, ViewStandsFor, seen_in}
+use Rattle.std.proofs.Common.{◌-◌}
 use Rattle.fd_table.specs.declared.Access.{Access}
-use Rattle.fd_table.specs.declared.Limits.{Limits}
-use Rattle.fd_table.specs.declared.TheConstants.{FILES}
-use Rattle.fd_table.specs.declared.tables.Opened.{Opened}
-use Rattle.fd_table.specs.Descriptors.{Descriptors}
-use Rattle.fd_table.specs.Releases.{without_one, ClosesOne}
-use Rattle.fd_table.specs.Rows.{Keys, row_at, key_at, with_key, is_place, users_of}
-use Rattle.fd_table.specs.Soundness.{AreRows, AreEntries}
-use Rattle.fd_table.specs.TablesView.{View, Numbered, numbered, ViewStandsFor, seen_in}
 use Rattle.fd_table.proofs.RowsLemmas.{key_within, users_of-with_key, users_of-le, one_for, key_is_used, used_by, row-short}
 use Rattle.fd_table.proofs.ViewLemmas.{seen_some, seen_none}
 use Rattle.fd_table.proofs.EntryLemmas.{some_is, value_of_some, entries_rewritten, entries_removed, entries_added, seen_by, seen_by_same, rewritten_shows, seen-with_key, key_at_written}

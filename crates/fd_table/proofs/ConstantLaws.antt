@@ -1,6 +1,6 @@
 -- The constants are the numbers that the definitions write, by computation.
-use Rattle.std.proofs.Common.{◌≡◌, refl}
-use Rattle.fd_table.specs.declared.TheConstants.{FILES, DESCRIPTIONS}
+use Rattle.fd_table.proofs.Common.{◌≡◌, refl, FILES}
+use Rattle.fd_table.specs.declared.TheConstants.{DESCRIPTIONS}
 use Rattle.fd_table.specs.Descriptors.{description_limit}
 
 pub most_descriptions : DESCRIPTIONS ≡ description_limit

@@ -1,17 +1,14 @@
 -- The closing of the descriptors of a process one after the other, and what it releases: for `Tables::end_process`.
-use Rattle.std.proofs.Common.{rules, ◌≡◌, ◌≢◌, ◌⊎◌, ◌↔◌, ℕ, ◌+◌, ◌<◌, ◌≤◌, Bool, true, false, ◌&&◌, cond, eqb, ltb, List, [], ◌∷◌, ◌++◌, length, set, replicate, Some, None, refl, sym, ap, subst, ◌∙◌, inl, inr, arith, Contains}
-use Rattle.std.proofs.lemmas.Grind.{common_steps}
-use Rattle.std.specs.Option.{option_map}
+use Rattle.fd_table.proofs.Common.{rules, ◌≡◌, ◌≢◌, ◌⊎◌, ℕ, ◌+◌, ◌<◌, ◌≤◌, Bool, true, false, cond, eqb, List, [], ◌∷◌, ◌++◌, length, set, Some, None, refl, sym, ap, subst, ◌∙◌, inl, inr, arith, Contains, common_steps, option_map, IsStrictlyIncreasing, cases_eq, cases_lt, eq-eqb, ne_eqb, lt-ltb, get_or-set_same, get_or-set_other, get_or_past, same_Some, none-some, Released, AreExactly, without_one, ClosesOne, IsMarked, Descriptors, SameDescriptors, description_numbered, without_descriptors}
+use Rattle.std.proofs.Common.{◌↔◌, ◌&&◌, ltb, replicate}
 use Rattle.std.specs.List.{IsDistinct}
-use Rattle.std.specs.List.Sorted.{IsStrictlyIncreasing}
-use Rattle.std.proofs.lemmas.Bool.{cases_eq, cases_lt, eq-eqb, ne_eqb, lt-ltb, le-ltb, ltb-true, and_left, false≢true}
-use Rattle.std.proofs.lemmas.List.{get_or-set_same, get_or-set_other, get_or-replicate, get_or_past, length-replicate}
+use Rattle.std.proofs.lemmas.Bool.{le-ltb, ltb-true, and_left, false≢true}
+use Rattle.std.proofs.lemmas.List.{get_or-replicate, length-replicate}
 use Rattle.std.proofs.lemmas.List.Elements.{Contains-append_left, Contains-push, Contains-push_cases}
 use Rattle.std.proofs.lemmas.Map.Keys.{IsDistinct-from_apart}
-use Rattle.std.proofs.lemmas.Option.{same_Some, none-some}
 use Rattle.fd_table.specs.declared.releases.Closed.{Closed}
-use Rattle.fd_table.specs.Releases.{Released, AreExactly, ClosesFile, ClosesDescription, without_one, TellsLastClose, ClosesOne, IsClosing, IsMarked}
-use Rattle.fd_table.specs.Descriptors.{Descriptors, IsOpen, SameDescriptors, description_numbered, without_descriptors}
+use Rattle.fd_table.specs.Releases.{ClosesFile, ClosesDescription, TellsLastClose, IsClosing}
+use Rattle.fd_table.specs.Descriptors.{IsOpen}
 use Rattle.fd_table.specs.Calls.{EndGives}
 use Rattle.fd_table.proofs.CallLemmas.{same as same_descriptors}
 use Rattle.fd_table.proofs.ListLemmas.{distinct_push}

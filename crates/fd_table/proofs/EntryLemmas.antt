@@ -1,16 +1,10 @@
 -- The entries of the slab, and what is seen of them, after each change: for `add_users`, `Tables::close_fd`, `Tables::close_one` and others.
-use Rattle.std.proofs.Common.{rules, ◌≡◌, ◌≢◌, ◌⊎◌, ℕ, ◌+◌, ◌<◌, ◌≤◌, Bool, true, false, cond, List, length, Option, Some, None, IsSome, is_some, refl, sym, ap, ◌∙◌, arith}
-use Rattle.std.proofs.lemmas.Grind.{common_steps}
-use Rattle.std.proofs.lemmas.List.{get_or-set_other}
-use Rattle.std.specs.Option.{option_map, option_and_then}
-use Rattle.std.proofs.lemmas.Bool.{cases_eq, eq-eqb, ne_eqb}
-use Rattle.std.proofs.lemmas.Option.{same_Some, none-some}
+use Rattle.fd_table.proofs.Common.{rules, ◌≡◌, ◌≢◌, ◌⊎◌, ℕ, ◌+◌, ◌<◌, ◌≤◌, Bool, true, false, cond, List, length, Option, Some, None, IsSome, refl, sym, ap, ◌∙◌, arith, common_steps, get_or-set_other, option_map, cases_eq, eq-eqb, ne_eqb, same_Some, none-some, Slab, get, Updates, Opened, Keys, row_at, key_at, with_key, is_place, users_of, AreEntries, Numbered, numbered, seen_in}
+use Rattle.std.proofs.Common.{is_some}
+use Rattle.std.specs.Option.{option_and_then}
 use Rattle.range_core.specs.declared.TheConstants.{OFFMAX}
-use Rattle.slab.specs.Slab.{Slab, get, Updates, with_value}
-use Rattle.fd_table.specs.declared.tables.Opened.{Opened}
-use Rattle.fd_table.specs.Rows.{Keys, row_at, key_at, with_key, is_place, users_of}
-use Rattle.fd_table.specs.Soundness.{IsEntry, AreEntries}
-use Rattle.fd_table.specs.TablesView.{Numbered, numbered, seen_in}
+use Rattle.slab.specs.Slab.{with_value}
+use Rattle.fd_table.specs.Soundness.{IsEntry}
 use Rattle.fd_table.proofs.RowsLemmas.{place_cases, key_at-with_key, key_at-with_key_same, key_at-with_key_other}
 use Rattle.fd_table.proofs.ViewLemmas.{moved}
 

@@ -1,17 +1,11 @@
 -- The rows and the entries after a fork: for `add_users` and `Tables::fork`.
-use Rattle.std.proofs.Common.{rules, ◌≡◌, ℕ, ◌+◌, ◌<◌, ◌^◌, true, false, ◌||◌, cond, eqb, List, [], length, get_or, set, take, Option, Some, None, refl, sym, ap, ◌∙◌, arith}
-use Rattle.std.proofs.lemmas.Grind.{common_steps}
-use Rattle.std.specs.Option.{option_map}
-use Rattle.std.proofs.lemmas.Bool.{cases_eq, eq-eqb, ne_eqb, ltb-true, ltb-false}
-use Rattle.std.proofs.lemmas.Option.{same_Some, none-some}
-use Rattle.std.proofs.lemmas.List.{get_or-set_same, get_or-set_other, length-set, nil_from_length, get_or_read, length-take-le}
+use Rattle.fd_table.proofs.Common.{rules, ◌≡◌, ℕ, ◌+◌, ◌<◌, true, false, cond, eqb, List, [], length, get_or, set, Option, Some, None, refl, sym, ap, ◌∙◌, arith, common_steps, option_map, cases_eq, eq-eqb, ne_eqb, same_Some, none-some, get_or-set_same, get_or-set_other, length-set, Slab, get, Updates, Limits, Opened, Keys, row_at, has_row, key_at, users_in, users_of, AreRows, AreEntries, numbered, seen_in}
+use Rattle.std.proofs.Common.{◌^◌, ◌||◌, take}
+use Rattle.std.proofs.lemmas.Bool.{ltb-true, ltb-false}
+use Rattle.std.proofs.lemmas.List.{nil_from_length, get_or_read, length-take-le}
 use Rattle.std.proofs.lemmas.List.Sums.{sum_by-set, sum_by_more, count_by-le-length}
-use Rattle.slab.specs.Slab.{Slab, get, Updates}
-use Rattle.fd_table.specs.declared.Limits.{Limits}
-use Rattle.fd_table.specs.declared.tables.Opened.{Opened}
-use Rattle.fd_table.specs.Rows.{Keys, row_at, has_row, key_at, is_key, users_in, users_of}
-use Rattle.fd_table.specs.Soundness.{AreRows, AreEntries, with_users}
-use Rattle.fd_table.specs.TablesView.{numbered, seen_in}
+use Rattle.fd_table.specs.Rows.{is_key}
+use Rattle.fd_table.specs.Soundness.{with_users}
 use Rattle.fd_table.proofs.RowsLemmas.{one_for, row_inside}
 use Rattle.fd_table.proofs.EntryLemmas.{some_is, value_of_some, seen_by, seen_by_same, at_cond}
 use Rattle.fd_table.proofs.ChangeLemmas.{one_more, one_for-same, one_for-other}

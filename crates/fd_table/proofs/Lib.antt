@@ -1,3 +1,4 @@
+mod Common
 pub mod LimitsLemmas
 pub mod ListLemmas
 pub mod RowsLemmas

@@ -1,8 +1,5 @@
 -- How many descriptors a process has: for `Tables::close_one`, `Tables::dup`, `Tables::end_process` and others.
-use Rattle.std.proofs.lemmas.Grind.{common_steps}
-use Rattle.std.proofs.Common.{◌<◌, ◌≤◌, arith}
-use Rattle.fd_table.specs.declared.Limits.{Limits}
-use Rattle.fd_table.specs.Descriptors.{descriptor_limit}
+use Rattle.fd_table.proofs.Common.{common_steps, ◌<◌, ◌≤◌, arith, Limits, descriptor_limit}
 
 -- a process may have a descriptor
 pub descriptor_limit-positive : (limits : Limits) → 0 < descriptor_limit limits

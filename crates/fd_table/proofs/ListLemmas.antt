@@ -1,12 +1,8 @@
 -- Lists of numbers that rise: for `Releases::list_files` and `Releases::sort_descriptions`.
-use Rattle.std.proofs.lemmas.Grind.{common_steps}
-use Rattle.std.proofs.Common.{◌≡◌, ℕ, ◌+◌, ◌<◌, false, eqb, List, [], ◌∷◌, ◌++◌, length, get_or, ap, subst, ◌∙◌, inl, inr, arith, Contains}
+use Rattle.fd_table.proofs.Common.{common_steps, ◌≡◌, ℕ, ◌+◌, ◌<◌, false, eqb, List, [], ◌∷◌, ◌++◌, length, get_or, ap, subst, ◌∙◌, inl, inr, arith, Contains, IsStrictlyIncreasing, cases_eq, cases_lt, eq-eqb, ne_eqb, length_push, AreExactly}
 use Rattle.std.specs.List.{IsDistinct}
-use Rattle.std.specs.List.Sorted.{IsStrictlyIncreasing}
-use Rattle.std.proofs.lemmas.Bool.{cases_eq, cases_lt, eq-eqb, ne_eqb}
-use Rattle.std.proofs.lemmas.List.{get_or_append_left, get_or_push, length_push, get_or_default}
+use Rattle.std.proofs.lemmas.List.{get_or_append_left, get_or_push, get_or_default}
 use Rattle.std.proofs.lemmas.List.Elements.{Contains-get_or, Contains-append_left, Contains-push, Contains-push_cases}
-use Rattle.fd_table.specs.Releases.{AreExactly}
 use Rattle.std.proofs.lemmas.Map.Keys.{apart_from_distinct, IsDistinct-from_apart}
 
 -- equality of numbers is tested both ways

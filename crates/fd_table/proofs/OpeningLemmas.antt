@@ -1,18 +1,10 @@
 -- The fields of new tables, and the descriptors that they stand for: for `Tables::new`.
-use Rattle.std.proofs.lemmas.Grind.{common_steps}
-use Rattle.std.proofs.Common.{◌≡◌, ℕ, ◌+◌, ◌<◌, ◌≤◌, cond, eqb, List, [], length, get_or, replicate, Option, None, ap, ◌∙◌, inl, inr, arith}
-use Rattle.std.proofs.lemmas.Bool.{cases_eq, cases_lt, eq-eqb, ne_eqb, lt-ltb}
-use Rattle.std.proofs.lemmas.List.{get_or_past, get_or-replicate, length-replicate}
-use Rattle.std.proofs.lemmas.Option.{none-some}
-use Rattle.slab.specs.Slab.{Slab, get}
-use Rattle.fd_table.specs.declared.TheConstants.{FILES}
-use Rattle.fd_table.specs.declared.Limits.{Limits}
+use Rattle.fd_table.proofs.Common.{common_steps, ◌≡◌, ℕ, ◌+◌, ◌<◌, ◌≤◌, cond, eqb, List, [], length, get_or, Option, None, ap, ◌∙◌, inl, inr, arith, cases_eq, cases_lt, eq-eqb, ne_eqb, lt-ltb, get_or_past, none-some, Slab, get, FILES, Limits, Opened, descriptor_limit, Keys, row_at, has_row, key_at, AreRows, AreEntries, View, ViewStandsFor, seen_in}
+use Rattle.std.proofs.Common.{replicate}
+use Rattle.std.proofs.lemmas.List.{get_or-replicate, length-replicate}
 use Rattle.fd_table.proofs.LimitsLemmas.{descriptor_limit-positive}
-use Rattle.fd_table.specs.declared.tables.Opened.{Opened}
-use Rattle.fd_table.specs.Descriptors.{descriptor_limit, opening_descriptors}
-use Rattle.fd_table.specs.Rows.{Keys, row_at, has_row, key_at, opening_row}
-use Rattle.fd_table.specs.Soundness.{AreRows, AreEntries}
-use Rattle.fd_table.specs.TablesView.{View, ViewStandsFor, seen_in}
+use Rattle.fd_table.specs.Descriptors.{opening_descriptors}
+use Rattle.fd_table.specs.Rows.{opening_row}
 
 -- the rows are those of the opening
 pub record AreOpeningRows (rows : List Keys) (processes len : ℕ) : Type 0 where

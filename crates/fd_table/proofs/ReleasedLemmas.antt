@@ -1,13 +1,11 @@
 -- What the closing of descriptors releases: for `Tables::close_fd` and `Tables::dup2`.
-use Rattle.std.proofs.Common.{rules, ◌≡◌, ◌≢◌, ◌↔◌, ℕ, zero, suc, ◌<◌, ◌≤◌, cond, eqb, List, [], ◌∷◌, length, get_or, Option, Some, None, sym, ap, ◌∙◌, inl, inr, arith, Contains}
-use Rattle.std.proofs.lemmas.Grind.{common_steps}
-use Rattle.std.specs.Option.{option_map, option_to_list}
-use Rattle.std.specs.List.Sorted.{IsStrictlyIncreasing}
-use Rattle.std.proofs.lemmas.Bool.{cases_eq, eq-eqb, ne_eqb, eqb-true}
-use Rattle.std.proofs.lemmas.Option.{same_Some, none-some}
+use Rattle.fd_table.proofs.Common.{rules, ◌≡◌, ◌≢◌, ℕ, zero, suc, ◌<◌, ◌≤◌, cond, eqb, List, [], ◌∷◌, length, get_or, Option, Some, None, sym, ap, ◌∙◌, inl, inr, arith, Contains, common_steps, option_map, IsStrictlyIncreasing, cases_eq, eq-eqb, ne_eqb, same_Some, none-some, Released, AreExactly, without_one, ClosesOne, Descriptors, SameDescriptors, description_numbered, with_descriptor}
+use Rattle.std.proofs.Common.{◌↔◌}
+use Rattle.std.specs.Option.{option_to_list}
+use Rattle.std.proofs.lemmas.Bool.{eqb-true}
 use Rattle.fd_table.specs.declared.releases.Closed.{Closed}
-use Rattle.fd_table.specs.Releases.{Released, AreExactly, ClosesFile, ClosesDescription, AreReleased, without_one, TellsLastClose, ClosesOne, IsClosing, released_by, nothing}
-use Rattle.fd_table.specs.Descriptors.{Descriptors, IsOpen, SameDescriptors, description_numbered, with_descriptor}
+use Rattle.fd_table.specs.Releases.{ClosesFile, ClosesDescription, AreReleased, TellsLastClose, IsClosing, released_by, nothing}
+use Rattle.fd_table.specs.Descriptors.{IsOpen}
 use Rattle.fd_table.specs.Calls.{MovesTo}
 use Rattle.fd_table.proofs.RowsLemmas.{place_cases}
 use Rattle.fd_table.proofs.CallLemmas.{same as same_descriptors}

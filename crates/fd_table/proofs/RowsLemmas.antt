@@ -1,16 +1,13 @@
 -- Rows of keys: what a change leaves at each place, and how it changes the counts of users; for `Tables::close_one`, `Tables::dup`,
 -- `Tables::end_process` and others.
-use Rattle.std.proofs.lemmas.Grind.{common_steps}
-use Rattle.std.proofs.Common.{◌≡◌, ◌⊎◌, ℕ, zero, suc, ◌+◌, ◌*◌, ◌<◌, ◌≤◌, true, false, cond, ltb, List, [], ◌∷◌, length, get_or, set, Option, Some, None, ap, inl, inr, arith}
+use Rattle.fd_table.proofs.Common.{common_steps, ◌≡◌, ◌⊎◌, ℕ, zero, suc, ◌+◌, ◌<◌, ◌≤◌, true, false, cond, List, [], ◌∷◌, length, get_or, set, Option, Some, None, ap, inl, inr, arith, cases_eq, cases_lt, eq-eqb, ne_eqb, lt-ltb, get_or-set_same, get_or-set_other, get_or_past, length-set, Limits, descriptor_limit, AreRows, Keys, row_at, has_row, key_at, with_key, is_place, users_in, users_of}
+use Rattle.std.proofs.Common.{◌*◌, ltb}
 use Rattle.std.specs.List.{sum_by}
-use Rattle.std.proofs.lemmas.Bool.{cases_eq, cases_lt, eq-eqb, ne_eqb, lt-ltb, and_left, and_right, and_from}
-use Rattle.std.proofs.lemmas.List.{get_or-set_same, get_or-set_other, get_or_past, get_or_default, length-set, set_past, nil_from_length}
+use Rattle.std.proofs.lemmas.Bool.{and_left, and_right, and_from}
+use Rattle.std.proofs.lemmas.List.{get_or_default, set_past, nil_from_length}
 use Rattle.std.proofs.lemmas.List.Sums.{sum_by-set, sum_by-cons, get_or-le-sum_by, sum_by-le, count_by-le-length}
-use Rattle.fd_table.specs.declared.Limits.{Limits}
-use Rattle.fd_table.specs.Descriptors.{descriptor_limit}
-use Rattle.fd_table.specs.Soundness.{AreRows}
 use Rattle.fd_table.proofs.LimitsLemmas.{descriptor_limit-le}
-use Rattle.fd_table.specs.Rows.{Keys, row_at, has_row, key_at, with_key, is_key, is_place, users_in, users_of, WithKey}
+use Rattle.fd_table.specs.Rows.{is_key, WithKey}
 
 -- a place is that of the descriptor or another
 pub place_cases : (p fd q k : ℕ) → ((q ≡ p) × (k ≡ fd) × (is_place p fd q k ≡ true)) ⊎ (((q ≡ p) → (k ≡ fd) → ⊥) × (is_place p fd q k ≡ false))

@@ -1,15 +1,9 @@
 -- Any tables stand for some descriptors, so no clause that speaks of those is empty: for `tables_stand_for_some`.
-use Rattle.std.proofs.lemmas.Grind.{common_steps}
-use Rattle.std.proofs.Common.{rules, ◌≡◌, ℕ, zero, suc, ◌+◌, ◌<◌, ◌≤◌, cond, eqb, List, [], ◌∷◌, ◌++◌, length, get_or, Option, Some, None, refl, sym, subst, ◌∙◌, inl, inr, arith}
-use Rattle.std.specs.Option.{option_map}
-use Rattle.std.proofs.lemmas.Bool.{cases_eq, cases_lt, eq-eqb, ne_eqb}
+use Rattle.fd_table.proofs.Common.{common_steps, rules, ◌≡◌, ℕ, zero, suc, ◌+◌, ◌<◌, ◌≤◌, cond, eqb, List, [], ◌∷◌, ◌++◌, length, get_or, Option, Some, None, refl, sym, subst, ◌∙◌, inl, inr, arith, option_map, cases_eq, cases_lt, eq-eqb, ne_eqb, same_Some, none-some, Opened, Descriptors, description_numbered, numbered, StandFor, view_of}
 use Rattle.std.proofs.lemmas.List.{length-append}
-use Rattle.std.proofs.lemmas.Option.{same_Some, none-some}
 use Rattle.fd_table.specs.declared.Access.TheVariants.{R}
-use Rattle.fd_table.specs.declared.tables.Opened.{Opened}
 use Rattle.fd_table.specs.declared.tables.Tables.{Tables}
-use Rattle.fd_table.specs.Descriptors.{Descriptors, OpenFileDescription, description_numbered}
-use Rattle.fd_table.specs.TablesView.{numbered, StandFor, view_of}
+use Rattle.fd_table.specs.Descriptors.{OpenFileDescription}
 use Rattle.fd_table.proofs.ViewLemmas.{numbered_kept, numbered_push}
 use Rattle.fd_table.proofs.ChangeLemmas.{entry_seen}
 

@@ -1,17 +1,12 @@
 -- What is shown after each change stands for the descriptors after the same change: for `Tables::close_one`, `Tables::dup2`, `Tables::end_process`
 -- and others.
-use Rattle.std.proofs.Common.{arith, ◌≡◌, ◌≢◌, ℕ, zero, suc, pred, ◌+◌, ◌||◌, cond, eqb, List, [], ◌∷◌, ◌++◌, length, set, Option, Some, None, refl, ap, subst, ◌∙◌, add-one}
-use Rattle.std.proofs.lemmas.Grind.{common_steps}
+use Rattle.fd_table.proofs.Common.{arith, ◌≡◌, ◌≢◌, ℕ, zero, suc, ◌+◌, cond, eqb, List, [], ◌∷◌, ◌++◌, length, set, Option, Some, None, refl, ap, subst, ◌∙◌, common_steps, option_map, cases_eq, eq-eqb, ne_eqb, length-set, same_Some, none-some, Descriptors, SameDescriptors, description_numbered, with_descriptor, is_place, without_one, View, Numbered, ViewStandsFor}
+use Rattle.std.proofs.Common.{pred, ◌||◌, add-one}
 use Rattle.std.specs.List.{slice_get}
-use Rattle.std.specs.Option.{option_map}
-use Rattle.std.proofs.lemmas.Bool.{cases_eq, eq-eqb, ne_eqb}
-use Rattle.std.proofs.lemmas.List.{length-append, length-set}
-use Rattle.std.proofs.lemmas.Option.{same_Some, none-some}
+use Rattle.std.proofs.lemmas.List.{length-append}
 use Rattle.fd_table.specs.declared.Access.{Access}
-use Rattle.fd_table.specs.Descriptors.{Descriptors, OpenFileDescription, SameDescriptors, description_numbered, with_description, with_descriptor, with_child, with_offset, with_size}
-use Rattle.fd_table.specs.Rows.{is_place}
-use Rattle.fd_table.specs.Releases.{without_one}
-use Rattle.fd_table.specs.TablesView.{View, Numbered, IsSeen, ViewStandsFor}
+use Rattle.fd_table.specs.Descriptors.{OpenFileDescription, with_description, with_child, with_offset, with_size}
+use Rattle.fd_table.specs.TablesView.{IsSeen}
 use Rattle.fd_table.proofs.RowsLemmas.{place_cases}
 
 -- an open descriptor refers to the description that is shown

@@ -1,20 +1,12 @@
 -- A wait and the one that it is the same as: a lock blocks both or neither.
-use Rattle.std.proofs.Common.{◌≡◌, ℕ, Some, sym, ap, subst}
-use Rattle.range_core.specs.declared.Mode.{Mode}
+use Rattle.grants_alike.proofs.Common.{◌≡◌, ℕ, Some, sym, ap, subst, Mode, Owner, Process, Description, Family, Bytes, Whole, Wait, IsBlockedByLock, Pending, FileState, IsHeldBack, Numbers, TellsApart, SameLocks, SameWait}
 use Rattle.range_core.specs.declared.Span.{Span}
-use Rattle.lock_book.specs.declared.Owner.{Owner}
-use Rattle.lock_book.specs.declared.Owner.TheVariants.{Process, Description}
 use Rattle.lock_book.specs.Conflicts.{Blocks, ByteConflict, FlockConflict}
-use Rattle.wait_core.specs.declared.Family.{Family}
-use Rattle.wait_core.specs.declared.Family.TheVariants.{Bytes, Whole}
-use Rattle.wait_core.specs.declared.Wait.{Wait}
 use Rattle.wait_core.specs.Locks.{Locks}
-use Rattle.wait_core.specs.Blocking.{IsBlockedIn, IsBlockedByLock}
-use Rattle.lock_server.specs.declared.Pending.{Pending}
-use Rattle.lock_server.specs.Files.{FileState, by_owner, locks_on}
+use Rattle.wait_core.specs.Blocking.{IsBlockedIn}
+use Rattle.lock_server.specs.Files.{by_owner, locks_on}
 use Rattle.lock_server.specs.Pendings.{as_wait}
-use Rattle.lock_server.specs.Settling.{IsHeldBack}
-use Rattle.grants_alike.specs.Alike.{Numbers, TellsApart, SameLocks, IsKnownAs, SameWait}
+use Rattle.grants_alike.specs.Alike.{IsKnownAs}
 use Rattle.grants_alike.proofs.HolderLemmas.{another_number, another_holder, conflict_there, conflict_here}
 
 -- the server's wait, with what the manager's has

@@ -1,17 +1,13 @@
 -- The reader behind the writer: for `a_reader_follows_a_writer`.
-use Rattle.std.proofs.Common.{arith, ◌≡◌, ℕ, suc, ◌+◌, ◌==◌, ◌&&◌, Bool, true, false, Option, Some, None, [], ◌∷◌, refl, sym, ap, ◌∙◌, subst, if◌then◌else◌, eqb-true}
+use Rattle.grants_alike.proofs.Common.{◌≡◌, ℕ, ◌==◌, ◌&&◌, Bool, true, false, Option, Some, None, [], ◌∷◌, refl, sym, ap, ◌∙◌, subst, if◌then◌else◌, eqb-true, Mode, is_covered, Owner, Process, Description, FileState, locks_held, TellsApart, AreSameWaits, AreAlike}
+use Rattle.std.proofs.Common.{arith, suc, ◌+◌}
 use Rattle.std.proofs.lemmas.Option.{same_Some}
-use Rattle.range_core.specs.declared.Mode.{Mode}
 use Rattle.range_core.specs.declared.Mode.TheVariants.{Read, Write}
-use Rattle.range_core.specs.Changes.{is_covered}
-use Rattle.lock_book.specs.declared.Owner.{Owner}
-use Rattle.lock_book.specs.declared.Owner.TheVariants.{Process, Description}
 use Rattle.lock_book.specs.Owners.{is_same_owner}
 use Rattle.lock_book.specs.Conflicts.{ByteConflict, FlockConflict}
 use Rattle.range_core.specs.Ranges.{HeldConflicts}
-use Rattle.lock_server.specs.Files.{FileState, SameFile, by_owner}
-use Rattle.lock_manager.specs.State.{locks_held}
-use Rattle.grants_alike.specs.Alike.{TellsApart, SameModes, AreSameWaits, AreAlike}
+use Rattle.lock_server.specs.Files.{SameFile, by_owner}
+use Rattle.grants_alike.specs.Alike.{SameModes}
 use Rattle.grants_alike.specs.ReaderAndWriter.{number_of, all_numbers, first_bytes, later_bytes, reader, pending_reader, flocker, pending_flocker, shared_by_6, manager_before, manager_unlocked, file_before, file_unlocked, file_after, AReaderFollowsAWriter}
 use Rattle.grants_alike.proofs.HolderLemmas.{modes_set, modes_set_where, modes_stay}
 

@@ -1,21 +1,16 @@
 -- Where one engine settles from a state and a file that are alike, so does the other: for `engines_grant_alike`.
-use Rattle.std.proofs.Common.{◌≡◌, ℕ, ◌==◌, ◌&&◌, Bool, true, false, Some, if◌then◌else◌, List, [], ◌∷◌, ◌++◌, All, refl, sym, subst, subst₂, eq-eqb}
+use Rattle.grants_alike.proofs.Common.{◌≡◌, ℕ, ◌==◌, ◌&&◌, Bool, true, false, Some, if◌then◌else◌, List, [], ◌∷◌, ◌++◌, All, refl, sym, subst, eq-eqb, is_covered, Family, Bytes, Whole, Wait, IsBlockedByLock, State, locks_held, Pending, FileState, IsHeldBack, Numbers, AreSameWaits, waits_on_file, AreAlike}
+use Rattle.std.proofs.Common.{subst₂}
 use Rattle.std.proofs.lemmas.List.Elements.{All-weaker}
-use Rattle.range_core.specs.Changes.{is_covered}
-use Rattle.wait_core.specs.declared.Family.{Family}
-use Rattle.wait_core.specs.declared.Family.TheVariants.{Bytes, Whole}
 use Rattle.wait_core.specs.declared.Policy.TheVariants.{Held}
-use Rattle.wait_core.specs.declared.Wait.{Wait}
-use Rattle.wait_core.specs.Blocking.{IsBlockedByLock, IsNextBetween}
+use Rattle.wait_core.specs.Blocking.{IsNextBetween}
 use Rattle.lock_manager.specs.declared.request.Note.{Note}
 use Rattle.lock_manager.specs.declared.request.Note.TheVariants.{Answer}
 use Rattle.lock_manager.specs.declared.request.Reply.TheVariants as replies
-use Rattle.lock_manager.specs.State.{State, locks_held}
 use Rattle.lock_manager.specs.Settling.{Settles as ManagerSettles, granted as granted_by}
-use Rattle.lock_server.specs.declared.Pending.{Pending}
-use Rattle.lock_server.specs.Files.{FileState, GetsLock, SetsLock}
-use Rattle.lock_server.specs.Settling.{Settles as ServerSettles, IsHeldBack, IsNext, Grants}
-use Rattle.grants_alike.specs.Alike.{Numbers, AreSameWaits, waits_on_file, AreAlike, AreOnlyOn, EnginesGrantAlike}
+use Rattle.lock_server.specs.Files.{GetsLock, SetsLock}
+use Rattle.lock_server.specs.Settling.{Settles as ServerSettles, IsNext, Grants}
+use Rattle.grants_alike.specs.Alike.{AreOnlyOn, EnginesGrantAlike}
 use Rattle.grants_alike.proofs.WaitLemmas.{is_on_file, each_blocked, are_blocked, SameSplit, split_there, split_here, the_one_between, others_between, on_file_all}
 use Rattle.grants_alike.proofs.NextLemmas.{AreOn, one_here, one_there, all_alike}
 use Rattle.grants_alike.proofs.GrantLemmas.{alike_after, alike_elsewhere}

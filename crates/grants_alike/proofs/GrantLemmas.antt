@@ -1,19 +1,11 @@
 -- What a grant leaves is alike: of the same wait in both, and in the manager of a wait on another file.
-use Rattle.std.proofs.Common.{◌≡◌, ℕ, ◌==◌, Bool, true, false, ◌&&◌, Option, Some, None, List, [], ◌∷◌, ◌++◌, refl, sym, ap, ◌∙◌, subst, if◌then◌else◌, eq-eqb, eqb-true}
-use Rattle.range_core.specs.declared.Mode.{Mode}
-use Rattle.range_core.specs.Changes.{is_covered}
-use Rattle.lock_book.specs.declared.Owner.{Owner}
-use Rattle.lock_book.specs.declared.Owner.TheVariants.{Process, Description}
+use Rattle.grants_alike.proofs.Common.{◌≡◌, ℕ, ◌==◌, Bool, true, false, ◌&&◌, Option, Some, None, List, [], ◌∷◌, ◌++◌, refl, sym, ap, ◌∙◌, subst, if◌then◌else◌, eq-eqb, eqb-true, Mode, is_covered, Owner, Process, Description, Family, Bytes, Whole, Wait, State, locks_held, Pending, FileState, Numbers, TellsApart, SameLocks, AreSameWaits, waits_on_file, AreAlike}
 use Rattle.lock_book.specs.Owners.{is_same_owner}
 use Rattle.lock_book.specs.Changes.{Change, FlockChange, sets_byte, mode_from, flock_mode_from}
-use Rattle.wait_core.specs.declared.Family.{Family}
-use Rattle.wait_core.specs.declared.Family.TheVariants.{Bytes, Whole}
-use Rattle.wait_core.specs.declared.Wait.{Wait}
-use Rattle.lock_manager.specs.State.{State, locks_held, with_lock_of}
+use Rattle.lock_manager.specs.State.{with_lock_of}
 use Rattle.lock_manager.specs.Settling.{granted}
-use Rattle.lock_server.specs.declared.Pending.{Pending}
-use Rattle.lock_server.specs.Files.{FileState, SameFile, SetsLock, GetsLock}
-use Rattle.grants_alike.specs.Alike.{Numbers, TellsApart, SameLocks, IsKnownAs, AreSameWaits, waits_on_file, AreAlike}
+use Rattle.lock_server.specs.Files.{SameFile, SetsLock, GetsLock}
+use Rattle.grants_alike.specs.Alike.{IsKnownAs}
 use Rattle.grants_alike.proofs.HolderLemmas.{modes_stay, modes_set, modes_set_where}
 use Rattle.grants_alike.proofs.BlockedLemmas.{as_asked_is}
 use Rattle.grants_alike.proofs.WaitLemmas.{is_on_file, on_file_without, on_file_elsewhere, SameSplit, waits_appended}

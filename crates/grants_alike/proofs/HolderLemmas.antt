@@ -1,9 +1,9 @@
 -- Holders that are known by numbers: whose modes conflict, and what one more mode leaves.
-use Rattle.std.proofs.Common.{◌≡◌, ◌≢◌, ℕ, ◌==◌, Bool, true, false, ◌&&◌, Option, Some, None, refl, sym, ap, ◌∙◌, subst, if◌then◌else◌, eq-eqb, ne_eqb, eqb-true}
+use Rattle.grants_alike.proofs.Common.{◌≡◌, ℕ, ◌==◌, Bool, true, false, ◌&&◌, Option, Some, None, refl, sym, ap, ◌∙◌, subst, if◌then◌else◌, eq-eqb, eqb-true, Mode, TellsApart}
+use Rattle.std.proofs.Common.{◌≢◌, ne_eqb}
 use Rattle.std.proofs.lemmas.Option.{same_Some}
-use Rattle.range_core.specs.declared.Mode.{Mode}
 use Rattle.range_core.specs.Ranges.{HeldConflicts}
-use Rattle.grants_alike.specs.Alike.{TellsApart, SameModes}
+use Rattle.grants_alike.specs.Alike.{SameModes}
 
 -- two numbers that two holders have are one where the holders are
 pub another_number : {Holder : Type 0} (number_of : Holder → Option ℕ) (one other : Holder) (number number' : ℕ) → TellsApart number_of

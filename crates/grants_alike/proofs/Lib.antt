@@ -1,3 +1,4 @@
+mod Common
 pub mod HolderLemmas
 pub mod BlockedLemmas
 pub mod WaitLemmas

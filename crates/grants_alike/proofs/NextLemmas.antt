@@ -1,13 +1,7 @@
 -- Which waits are blocked, and which comes next, in a state and a file that are alike.
-use Rattle.std.proofs.Common.{◌≡◌, ℕ, true, List, [], ◌∷◌, ◌++◌, All, eqb-true}
-use Rattle.std.proofs.lemmas.List.Elements.{All-nil, All-head, All-tail, All-cons}
-use Rattle.wait_core.specs.declared.Wait.{Wait}
+use Rattle.grants_alike.proofs.Common.{◌≡◌, ℕ, true, List, [], ◌∷◌, ◌++◌, All, eqb-true, All-nil, All-cons, Wait, IsBlockedByLock, Pending, FileState, IsHeldBack, Numbers, TellsApart, SameLocks, SameWait, AreSameWaits}
+use Rattle.std.proofs.lemmas.List.Elements.{All-head, All-tail}
 use Rattle.wait_core.specs.Locks.{Locks}
-use Rattle.wait_core.specs.Blocking.{IsBlockedByLock}
-use Rattle.lock_server.specs.declared.Pending.{Pending}
-use Rattle.lock_server.specs.Files.{FileState}
-use Rattle.lock_server.specs.Settling.{IsHeldBack}
-use Rattle.grants_alike.specs.Alike.{Numbers, TellsApart, SameLocks, SameWait, AreSameWaits}
 use Rattle.grants_alike.proofs.BlockedLemmas.{blocked_there, blocked_here}
 use Rattle.grants_alike.proofs.WaitLemmas.{is_on_file, SameSplit}
 

@@ -1,19 +1,16 @@
 -- From a state and a file that are alike, both engines make the same grants on the file, and leave what is alike: for
 -- `engines_grant_alike`.
-use Rattle.std.proofs.Common.{◌≡◌, ℕ, Bool, true, false, List, [], ◌∷◌, ◌++◌, All, Contains, refl, sym, ap, ◌∙◌, subst}
-use Rattle.std.proofs.lemmas.List.Elements.{All-nil, All-cons, All-weaker, All-filter, filter_passes}
+use Rattle.grants_alike.proofs.Common.{◌≡◌, ℕ, Bool, true, false, List, [], ◌∷◌, ◌++◌, All, refl, sym, ap, ◌∙◌, subst, All-nil, All-cons, Wait, IsBlockedByLock, State, locks_held, Pending, FileState, IsHeldBack, Numbers, AreSameWaits, waits_on_file, AreAlike}
+use Rattle.std.proofs.Common.{Contains}
+use Rattle.std.proofs.lemmas.List.Elements.{All-weaker, All-filter, filter_passes}
 use Rattle.wait_core.specs.declared.Policy.TheVariants.{Held}
-use Rattle.wait_core.specs.declared.Wait.{Wait}
-use Rattle.wait_core.specs.Blocking.{IsBlockedByLock, IsNextBetween}
+use Rattle.wait_core.specs.Blocking.{IsNextBetween}
 use Rattle.lock_manager.specs.declared.request.Note.{Note}
 use Rattle.lock_manager.specs.declared.request.Note.TheVariants.{Answer}
 use Rattle.lock_manager.specs.declared.request.Reply.TheVariants as replies
-use Rattle.lock_manager.specs.State.{State, locks_held}
 use Rattle.lock_manager.specs.Settling.{Settles as ManagerSettles, granted as granted_by}
-use Rattle.lock_server.specs.declared.Pending.{Pending}
-use Rattle.lock_server.specs.Files.{FileState}
-use Rattle.lock_server.specs.Settling.{Settles as ServerSettles, IsHeldBack}
-use Rattle.grants_alike.specs.Alike.{Numbers, AreSameWaits, waits_on_file, AreAlike, AreAtOnePlace, AreSameGrants}
+use Rattle.lock_server.specs.Settling.{Settles as ServerSettles}
+use Rattle.grants_alike.specs.Alike.{AreAtOnePlace, AreSameGrants}
 use Rattle.grants_alike.proofs.WaitLemmas.{is_on_file, on_file_between, on_file_without, on_file_elsewhere, on_file_first, each_blocked, the_one_between, among_all, itself_among, one_place, places_still}
 use Rattle.grants_alike.proofs.NextLemmas.{AreOn, all_alike, same_next}
 use Rattle.grants_alike.proofs.GrantLemmas.{alike_after, alike_elsewhere, alike_same}

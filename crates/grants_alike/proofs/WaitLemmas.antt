@@ -1,10 +1,9 @@
 -- Lists of the same waits, and those of the waits that are on a file.
-use Rattle.std.proofs.Common.{arith, ◌≡◌, ℕ, zero, suc, ◌==◌, Bool, true, false, Some, List, [], ◌∷◌, ◌++◌, All, Contains, slice_get, refl, sym, ap, ◌∙◌, ⊎_elim, if◌then◌else◌}
-use Rattle.std.proofs.lemmas.List.Elements.{All-nil, All-head, All-tail, All-cons, filter-append, Contains-append_left, Contains-append_right, Contains-append_cases}
-use Rattle.wait_core.specs.declared.Wait.{Wait}
+use Rattle.grants_alike.proofs.Common.{◌≡◌, ℕ, ◌==◌, Bool, true, false, Some, List, [], ◌∷◌, ◌++◌, All, refl, sym, ap, ◌∙◌, if◌then◌else◌, All-nil, All-cons, Wait, Pending, Numbers, SameWait, AreSameWaits, waits_on_file}
+use Rattle.std.proofs.Common.{arith, zero, suc, Contains, slice_get, ⊎_elim}
+use Rattle.std.proofs.lemmas.List.Elements.{All-head, All-tail, filter-append, Contains-append_left, Contains-append_right, Contains-append_cases}
 use Rattle.wait_core.specs.Blocking.{AreBlocked}
-use Rattle.lock_server.specs.declared.Pending.{Pending}
-use Rattle.grants_alike.specs.Alike.{Numbers, SameWait, AreSameWaits, waits_on_file, IsAtOnePlace, AreAtOnePlace}
+use Rattle.grants_alike.specs.Alike.{IsAtOnePlace, AreAtOnePlace}
 
 -- ---- those on a file
 

@@ -1,16 +1,14 @@
 -- Lists of byte locks, and the modes that they give.
-use Rattle.std.proofs.Common.{inl, inr, ℕ, ◌≡◌, ◌≢◌, ◌+◌, ◌-◌, ◌^◌, ◌<◌, ◌≤◌, ◌∙◌, ◌==◌, ◌&&◌, ◌↔◌, sym, ap, refl, subst, arith, true, false, Bool, Option, Some, None, List, [], ◌∷◌, ◌++◌, length, take, drop, zero, suc, get_or, min, max, drop-cons}
-use Rattle.std.proofs.lemmas.Grind.{common_steps}
-use Rattle.std.proofs.lemmas.Bool.{cases_Bool, eqb-true, eqb-false, ltb-true, ltb-false}
-use Rattle.std.specs.Prelude.{◌⊎◌, All, Any, filter, not, nat_le, nat_lt, insert}
-use Rattle.std.proofs.lemmas.List.Elements.{All-push, All-append, All-take, All-drop, All-filter}
-use Rattle.std.proofs.lemmas.List.{take_more, take_all, take-append-drop}
-use Rattle.range_core.specs.declared.Mode.{Mode}
+use Rattle.history_core.proofs.Common.{inl, inr, ℕ, ◌≡◌, ◌≢◌, ◌+◌, ◌^◌, ◌<◌, ◌≤◌, ◌∙◌, ◌==◌, ◌↔◌, sym, ap, refl, subst, arith, true, false, Bool, Option, Some, None, List, [], ◌∷◌, ◌++◌, length, take, drop, zero, suc, get_or, common_steps, cases_Bool, eqb-true, ltb-true, ltb-false, ◌⊎◌, All, Any, filter, not, nat_lt, All-push, take_more, take_all, Mode, ByteLock, bytes_in, Gives, HasByte, AreRanges, AreTrue}
+use Rattle.std.proofs.Common.{◌-◌, ◌&&◌, min, max, drop-cons}
+use Rattle.std.proofs.lemmas.Bool.{eqb-false}
+use Rattle.std.specs.Prelude.{nat_le, insert}
+use Rattle.std.proofs.lemmas.List.Elements.{All-append, All-take, All-drop, All-filter}
+use Rattle.std.proofs.lemmas.List.{take-append-drop}
 use Rattle.range_core.specs.declared.Span.{Span}
 use Rattle.range_core.specs.Ranges.{Conflict, Covers, HeldConflicts, IsConstant, Modes}
-use Rattle.history_core.specs.declared.byte_locks.ByteLock.{ByteLock}
 use Rattle.history_core.specs.Locks.{BlocksBytes, IsHeld, covers, bytes_with, bytes_without}
-use Rattle.history_core.specs.ByteLists.{IsRange, HasBytes, Meets, bytes_in, Gives, HasByte, GivesSome, AreRanges, IsTrueOf, AreTrue, Touches, IsAskedFor, IsBounded}
+use Rattle.history_core.specs.ByteLists.{IsRange, HasBytes, Meets, GivesSome, IsTrueOf, Touches, IsAskedFor, IsBounded}
 
 -- a byte is covered just where the test says so
 pub covers-true : (span : Span) (byte : ℕ) → covers span byte ≡ true → Covers span byte

@@ -1,11 +1,7 @@
 -- The locks that happenings leave, as lists.
-use Rattle.std.proofs.Common.{inl, inr, ℕ, ◌≡◌, ◌<◌, ◌≤◌, refl, arith, true, None, List, [], ◌∷◌, map, get_or, suc}
-use Rattle.std.proofs.lemmas.Grind.{common_steps}
-use Rattle.std.proofs.lemmas.Bool.{cases_Bool, ltb-true, ltb-false}
-use Rattle.std.specs.Prelude.{All, nat_lt}
-use Rattle.history_core.specs.declared.byte_locks.ByteLock.{ByteLock}
+use Rattle.history_core.proofs.Common.{inl, inr, ℕ, ◌≡◌, ◌<◌, ◌≤◌, refl, arith, true, None, List, [], ◌∷◌, map, get_or, suc, common_steps, cases_Bool, ltb-true, ltb-false, All, nat_lt, ByteLock, AreTrue, bytes_in}
 use Rattle.history_core.specs.Locks.{covers}
-use Rattle.history_core.specs.ByteLists.{AreTrue, IsTrueOf, bytes_in}
+use Rattle.history_core.specs.ByteLists.{IsTrueOf}
 use Rattle.history_core.specs.HeldView.{flock_of, flocks_in}
 
 -- locks that cover byte 0 are as good as flock locks

@@ -1,4 +1,5 @@
 -- The lemmas of this crate.
+mod Common
 pub mod ListLemmas
 pub mod ChangeLemmas
 pub mod ChainLemmas

@@ -1,19 +1,14 @@
 -- Each order of a whole history is one of each file's lines.
-use Rattle.std.proofs.Common.{inl, inr, ℕ, ◌≡◌, ◌≢◌, ◌∙◌, ◌==◌, sym, ap, refl, subst, arith, true, false, Bool, Option, Some, None, List, [], ◌∷◌, ◌++◌, eq-eqb}
-use Rattle.std.proofs.lemmas.Grind.{common_steps}
-use Rattle.std.proofs.lemmas.Bool.{false≢true}
-use Rattle.std.proofs.lemmas.List.{append_assoc, map-append}
-use Rattle.std.specs.Prelude.{fold, not, if◌then◌else◌}
-use Rattle.history_core.specs.declared.request.Request.{Request}
-use Rattle.history_core.specs.declared.request.Answer.{Answer}
-use Rattle.history_core.specs.Moments.{FileLine, World, opened}
+use Rattle.history_judge.proofs.Common.{inl, inr, ℕ, ◌≡◌, ◌≢◌, ◌∙◌, ◌==◌, sym, ap, refl, subst, arith, true, false, Bool, Option, Some, None, List, [], ◌∷◌, ◌++◌, eq-eqb, common_steps, false≢true, append_assoc, if◌then◌else◌, Request, Answer, FileLine, World, requests_of, Answered, HistoryLine, Moment, Sent, line_of, lines_among, Sending, IsNamed, is_on, open_behind}
+use Rattle.std.proofs.lemmas.List.{map-append}
+use Rattle.std.specs.Prelude.{fold, not}
+use Rattle.history_core.specs.Moments.{opened}
 use Rattle.history_core.specs.Moments as one_file
-use Rattle.history_core.specs.Chains.{requests_of}
 use Rattle.history_core.proofs.ListLemmas.{map-filter}
 use Rattle.history_core.proofs.ChainLemmas.{requests-acts}
 use Rattle.history_core.proofs.LineLemmas.{leads-append, lines-append}
-use Rattle.history_judge.specs.Histories.{Answered, Comes, HistoryLine, Leads, Moment, Sent, line_of, lines_among, lines_at}
-use Rattle.history_judge.specs.FilesApart.{Sending, AreNamedFrom, IsNamed, is_on, line_on, lines_from, open_behind}
+use Rattle.history_judge.specs.Histories.{Comes, Leads, lines_at}
+use Rattle.history_judge.specs.FilesApart.{AreNamedFrom, line_on, lines_from}
 use Rattle.history_judge.proofs.NameLemmas.{Named, decide, free_has, has_id, named_answered, named_same, named_sent, neq-eqb, on_none, open_has}
 
 -- an order of the file's lines, from one world to another

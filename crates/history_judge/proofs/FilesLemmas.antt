@@ -1,36 +1,27 @@
 -- What is known of all files of a history, one by one.
-use Rattle.std.proofs.Common.{inl, inr, ℕ, ◌≡◌, ◌≢◌, ◌∙◌, ◌+◌, ◌-◌, ◌<◌, ◌≤◌, ◌↔◌, ◌==◌, sym, ap, refl, subst, arith, true, false, Bool, Option, Some, None, List, [], ◌∷◌, ◌++◌, get_or, eq-eqb}
-use Rattle.std.proofs.lemmas.Grind.{common_steps}
-use Rattle.std.proofs.lemmas.Bool.{false≢true}
+use Rattle.history_judge.proofs.Common.{inl, inr, ℕ, ◌≡◌, ◌≢◌, ◌∙◌, ◌+◌, ◌-◌, ◌<◌, ◌==◌, sym, ap, refl, subst, arith, true, false, Bool, Option, Some, None, List, [], ◌∷◌, ◌++◌, eq-eqb, common_steps, false≢true, BTreeMap, UpdatesBy, get, is_at, lookup, list_any, nat_cmp, deref_pair, All, option_map, if◌then◌else◌, FileHistory, Answer, Request, FileLine, beginning, keeps_order, Files, file_in, keeps_in, Happening, FileOrder, left_in}
+use Rattle.std.proofs.Common.{◌≤◌, ◌↔◌, get_or}
 use Rattle.std.proofs.lemmas.Cmp.{nat_cmp_total}
 use Rattle.std.proofs.lemmas.Map.Entries.{All-lookup, sum_by-insert_entry, sum_by-remove_entry, sum_by-set_value}
 use Rattle.std.proofs.lemmas.Map.Iter.{btree_map_turn}
-use Rattle.std.specs.BTreeMap.{BTreeMap, IsOrdered, UpdatesBy, WritesThrough, get, insert_entry, is_at}
-use Rattle.std.specs.Map.{lookup, set_value, values_of}
-use Rattle.std.specs.List.{list_any, sum_by}
-use Rattle.std.specs.Ordering.{nat_cmp}
+use Rattle.std.specs.BTreeMap.{IsOrdered, WritesThrough, insert_entry}
+use Rattle.std.specs.Map.{set_value, values_of}
+use Rattle.std.specs.List.{sum_by}
 use Rattle.std.specs.Borrow.{Bor, MutBor}
 use Rattle.std.specs.Iterator.{Yields}
-use Rattle.std.specs.Map.Iter.{TakesFirst, deref_pair}
+use Rattle.std.specs.Map.Iter.{TakesFirst}
 use Rattle.std.specs.Option.{option_copied_mut}
-use Rattle.std.specs.Prelude.{All, Err, IfOk, IfSome, IsTrue, Ok, OnErr, OnOk, Result, is_some, option_map, unwrap_or, if◌then◌else◌}
-use Rattle.history_core.specs.declared.file.FileHistory.{FileHistory}
-use Rattle.history_core.specs.declared.request.Answer.{Answer}
-use Rattle.history_core.specs.declared.request.Request.{Request}
+use Rattle.std.specs.Prelude.{Err, IfOk, IfSome, IsTrue, Ok, OnErr, OnOk, Result, is_some, unwrap_or}
 use Rattle.history_core.specs.declared.search.SearchFault.{SearchFault}
-use Rattle.history_core.specs.Moments.{Answered, FileLine, HasMore, MayEnd, Reaches, Sent, beginning}
-use Rattle.history_core.specs.FileView.{count_in, has_open, keeps_order}
+use Rattle.history_core.specs.Moments.{Answered, HasMore, MayEnd, Reaches, Sent}
+use Rattle.history_core.specs.FileView.{count_in, has_open}
 use Rattle.history_core.specs.FileView as one_file
-use Rattle.history_judge.specs.declared.files.Files.{Files}
 use Rattle.history_judge.specs.Entries.{Answers, Inserts, Rewrites, Sends, count_on}
 use Rattle.history_judge.specs.Kept.{kept_by}
-use Rattle.history_judge.specs.FilesView.{TellsEnd, Exceeds, KeepsOn, Knows, KnowsFile, Refuses, Stays, Takes, file_in, keeps_in, kept_beside, kept_in, runs_of, with_line}
+use Rattle.history_judge.specs.FilesView.{TellsEnd, Exceeds, KeepsOn, Knows, KnowsFile, Refuses, Stays, Takes, kept_beside, kept_in, runs_of, with_line}
 use Rattle.std.proofs.Common.{suc}
-use Rattle.history_core.specs.declared.order.Happening.{Happening}
 use Rattle.history_core.specs.Orders as one_file_orders
-use Rattle.history_judge.specs.declared.order.FileOrder.{FileOrder}
 use Rattle.history_judge.specs.FileOrders.{AreOf, IsOrderOf, PutsOrder}
-use Rattle.history_judge.specs.Merging.{left_in}
 use Rattle.history_judge.proofs.NameLemmas.{decide, neq-eqb}
 
 -- the file has one line more

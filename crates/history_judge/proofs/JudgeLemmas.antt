@@ -1,31 +1,21 @@
 -- What is known of a whole history, line by line.
-use Rattle.std.proofs.Common.{inl, inr, ℕ, ◌≡◌, ◌≢◌, ◌∙◌, ◌↔◌, ◌==◌, sym, ap, refl, subst, arith, true, Bool, Option, Some, None, List, [], ◌∷◌, ◌++◌, eq-eqb}
+use Rattle.history_judge.proofs.Common.{inl, inr, ℕ, ◌≡◌, ◌≢◌, ◌∙◌, ◌==◌, sym, ap, refl, subst, arith, true, Bool, Option, Some, None, List, [], ◌∷◌, ◌++◌, eq-eqb, common_steps, cases_Bool, false≢true, BTreeMap, UpdatesBy, get, is_at, lookup, list_any, nat_cmp, option_map, if◌then◌else◌, Request, Answer, FileHistory, FileLine, beginning, Files, AreNamed, IsNamed, Sending, is_on, lines_of, none_open, open_behind, file_in, keeps_in, Answered, HistoryLine, Sent, beginnings}
+use Rattle.std.proofs.Common.{◌↔◌}
 use Rattle.std.proofs.Math.Logic.{∥∥₁_elim, ∥∥₁_map}
 use mathlib.Core.HLevel.{⊥_prop}
-use Rattle.std.proofs.lemmas.Grind.{common_steps}
-use Rattle.std.proofs.lemmas.Bool.{cases_Bool, false≢true}
 use Rattle.std.proofs.lemmas.List.{append-nil}
-use Rattle.std.specs.BTreeMap.{BTreeMap, UpdatesBy, get, is_at}
-use Rattle.std.specs.Map.{lookup}
-use Rattle.std.specs.List.{list_any}
-use Rattle.std.specs.Ordering.{nat_cmp}
-use Rattle.std.specs.Prelude.{Err, fold, IfOk, IsErrAnd, IsTrue, Ok, Result, option_map, if◌then◌else◌}
-use Rattle.history_core.specs.declared.request.Request.{Request}
-use Rattle.history_core.specs.declared.request.Answer.{Answer}
-use Rattle.history_core.specs.declared.file.FileHistory.{FileHistory}
+use Rattle.std.specs.Prelude.{Err, fold, IfOk, IsErrAnd, IsTrue, Ok, Result}
 use Rattle.history_core.specs.FileView.{has_open}
-use Rattle.history_core.specs.Moments.{FileLine, beginning}
 use Rattle.history_core.specs.Moments as one_file
 use Rattle.history_core.proofs.LineLemmas.{open_reached}
-use Rattle.history_judge.specs.declared.files.Files.{Files}
 use Rattle.history_judge.specs.declared.judge.HistoryJudge.{HistoryJudge}
 use Rattle.history_judge.specs.declared.judge.OpenRequest.{OpenRequest}
 use Rattle.history_judge.specs.Entries.{IsFreeOn}
 use Rattle.history_judge.specs.Merging.{file_of, file_sent, files_from, files_of}
-use Rattle.history_judge.specs.FilesApart.{AreNamed, IsNamed, Sending, is_on, lines_of, none_open, open_after, open_behind}
-use Rattle.history_judge.specs.FilesView.{KeepsOn, TellsEnd, KnowsFile, file_in, keeps_in, runs_of, with_line}
+use Rattle.history_judge.specs.FilesApart.{open_after}
+use Rattle.history_judge.specs.FilesView.{KeepsOn, TellsEnd, KnowsFile, runs_of, with_line}
 use Rattle.history_judge.specs.FilesView as all_files
-use Rattle.history_judge.specs.Histories.{Answered, HistoryLine, IsIllegalAt, IsLegal, MayEnd, Sent, beginnings}
+use Rattle.history_judge.specs.Histories.{IsIllegalAt, IsLegal, MayEnd}
 use Rattle.history_core.specs.declared.search.SearchFault.{SearchFault}
 use Rattle.history_core.specs.declared.search.SearchFault.TheVariants as searches
 use Rattle.history_judge.specs.declared.fault.JudgeFault.{JudgeFault}

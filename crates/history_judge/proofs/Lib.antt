@@ -1,4 +1,5 @@
 -- The lemmas of this crate.
+mod Common
 pub mod NameLemmas
 pub mod ApartLemmas
 pub mod MergeLemmas

@@ -1,15 +1,11 @@
 -- Orders of each file's lines are merged to one of the whole history.
-use Rattle.std.proofs.Common.{inl, inr, ℕ, ◌≡◌, ◌≢◌, ◌∙◌, ◌==◌, sym, ap, refl, subst, arith, Bool, Option, Some, None, List, [], ◌∷◌, ◌++◌, eq-eqb}
-use Rattle.std.proofs.lemmas.Grind.{common_steps}
-use Rattle.std.proofs.lemmas.List.{append_assoc, append-nil}
-use Rattle.std.specs.Prelude.{if◌then◌else◌}
-use Rattle.history_core.specs.declared.request.Request.{Request}
-use Rattle.history_core.specs.Moments.{FileLine, World, beginning}
+use Rattle.history_judge.proofs.Common.{inl, inr, ℕ, ◌≡◌, ◌≢◌, ◌∙◌, ◌==◌, sym, ap, refl, subst, arith, Bool, Option, Some, None, List, [], ◌∷◌, ◌++◌, eq-eqb, common_steps, append_assoc, if◌then◌else◌, Request, FileLine, World, beginning, Answered, HistoryLine, Moment, Sent, beginnings, line_of, lines_among, Sending, AreNamed, IsNamed, is_on, lines_of, none_open}
+use Rattle.std.proofs.lemmas.List.{append-nil}
 use Rattle.history_core.specs.Moments as one_file
 use Rattle.history_core.specs.Chains.{Chain}
 use Rattle.history_core.proofs.LineLemmas.{LastLine, moment_of, reached_before, reached_first}
-use Rattle.history_judge.specs.Histories.{Answered, HistoryLine, IsNew, Leads, Moment, Reaches, Sent, beginnings, line_of, lines_among, lines_at}
-use Rattle.history_judge.specs.FilesApart.{Sending, AreNamed, EndsApart, IsNamed, LegalApart, ReachedApart, is_on, line_on, lines_of, none_open, open_after}
+use Rattle.history_judge.specs.Histories.{IsNew, Leads, Reaches, lines_at}
+use Rattle.history_judge.specs.FilesApart.{EndsApart, LegalApart, ReachedApart, line_on, open_after}
 use Rattle.history_judge.proofs.NameLemmas.{Named, decide, has_free, neq-eqb}
 use Rattle.history_judge.proofs.ApartLemmas.{Apart, Home, apart, home_answered, home_sent, lines-from-append, named-parts}
 

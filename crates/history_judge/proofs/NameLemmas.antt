@@ -1,16 +1,9 @@
 -- On which file the open request of an ID is.
-use Rattle.std.proofs.Common.{inl, inr, ℕ, ◌≡◌, ◌≢◌, ◌∙◌, ◌==◌, sym, ap, refl, subst, arith, true, false, Bool, Option, Some, None, List, [], ◌∷◌, ◌++◌, map, eq-eqb}
-use Rattle.std.proofs.lemmas.Grind.{common_steps}
-use Rattle.std.proofs.lemmas.Bool.{cases_Bool, eqb-true, false≢true}
-use Rattle.std.specs.Prelude.{◌⊎◌, find, filter, not, if◌then◌else◌}
-use Rattle.std.specs.List.{list_any}
-use Rattle.history_core.specs.declared.request.Request.{Request}
-use Rattle.history_core.specs.declared.request.Answer.{Answer}
-use Rattle.history_core.specs.Moments.{IsFree, IsOpen, Open, World, is_named}
-use Rattle.history_core.specs.Chains.{requests_of}
+use Rattle.history_judge.proofs.Common.{inl, inr, ℕ, ◌≡◌, ◌≢◌, ◌∙◌, ◌==◌, sym, ap, refl, subst, arith, true, false, Bool, Option, Some, None, List, [], ◌∷◌, ◌++◌, map, eq-eqb, common_steps, cases_Bool, false≢true, if◌then◌else◌, list_any, Request, Answer, World, requests_of, Answered, Sent, Sending, is_on, open_behind}
+use Rattle.std.proofs.lemmas.Bool.{eqb-true}
+use Rattle.std.specs.Prelude.{◌⊎◌, find, filter, not}
+use Rattle.history_core.specs.Moments.{IsFree, IsOpen, Open, is_named}
 use Rattle.history_core.proofs.ListLemmas.{find_none}
-use Rattle.history_judge.specs.Histories.{Answered, Sent}
-use Rattle.history_judge.specs.FilesApart.{Sending, is_on, open_behind}
 
 -- two numbers are the same, or not
 pub decide : (m n : ℕ) → (m ≡ n) ⊎ (m ≢ n)

@@ -1,13 +1,8 @@
 -- A line of a file passes, and what happened behind it is told.
-use Rattle.std.proofs.Common.{inl, inr, ℕ, ◌≡◌, ◌∙◌, ◌+◌, ◌<◌, sym, ap, refl, arith, Option, Some, None, List, [], ◌∷◌, ◌++◌, length, drop, drop-cons, get_or, add-one, suc}
-use Rattle.std.proofs.lemmas.Grind.{common_steps}
-use Rattle.std.proofs.lemmas.Bool.{cases_Bool}
-use Rattle.std.proofs.lemmas.List.{append_assoc}
+use Rattle.history_judge.proofs.Common.{inl, inr, ℕ, ◌≡◌, ◌∙◌, ◌+◌, ◌<◌, sym, ap, refl, arith, Option, Some, None, List, [], ◌∷◌, ◌++◌, common_steps, cases_Bool, append_assoc, Happening, FileHappening, FileOrder, beyond, front, left_in}
+use Rattle.std.proofs.Common.{length, drop, drop-cons, get_or, add-one, suc}
 use Rattle.std.specs.Prelude.{nat_le}
-use Rattle.history_core.specs.declared.order.Happening.{Happening}
-use Rattle.history_judge.specs.declared.order.FileHappening.{FileHappening}
-use Rattle.history_judge.specs.declared.order.FileOrder.{FileOrder}
-use Rattle.history_judge.specs.Merging.{Left, beyond, front, left_in, merged, pass, passed}
+use Rattle.history_judge.specs.Merging.{Left, merged, pass, passed}
 
 -- where no front is left, all is beyond
 beyond_all : (b : ℕ) (told : List Happening) → front b told ≡ [] → beyond b told ≡ told

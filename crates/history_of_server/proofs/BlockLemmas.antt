@@ -1,28 +1,20 @@
 -- What is in the way of a request in the history and in the server, and what a change leaves in both.
-use Rattle.std.proofs.Common.{inl, inr, ℕ, ◌≡◌, ◌≢◌, ◌∙◌, ◌==◌, ◌≤◌, sym, ap, refl, subst, arith, true, false, Bool, Option, Some, None, eq-eqb}
-use Rattle.std.proofs.lemmas.Bool.{and_parts, cases_eq, eqb-true, false≢true, leb-true, ne_eqb}
-use Rattle.std.specs.Prelude.{◌&&◌, nat_le, if◌then◌else◌}
-use Rattle.range_core.specs.declared.Mode.{Mode}
-use Rattle.range_core.specs.declared.Span.{Span}
-use Rattle.range_core.specs.declared.TheConstants.{OFFMAX}
+use Rattle.history_of_server.proofs.Common.{inl, inr, ℕ, ◌≡◌, ◌≢◌, ◌∙◌, ◌==◌, ◌≤◌, sym, ap, refl, subst, arith, true, false, Bool, Option, Some, None, eq-eqb, cases_eq, eqb-true, false≢true, ne_eqb, ◌&&◌, if◌then◌else◌, Mode, Span, OFFMAX, Family, Bytes, Whole, Action, FileLocks, Did, MayHave, Pending, FileState, SameFile, SetsLock, all_bytes}
+use Rattle.std.proofs.lemmas.Bool.{and_parts, leb-true}
+use Rattle.std.specs.Prelude.{nat_le}
 use Rattle.range_core.specs.declared.Mode.TheVariants.{Read, Write}
 use Rattle.range_core.specs.Ranges.{Conflict, HeldConflicts}
 use Rattle.range_core.specs.Changes.{is_covered}
 use Rattle.lock_book.specs.declared.Owner.{Owner}
 use Rattle.lock_book.specs.declared.Owner.TheVariants.{Process, Description}
 use Rattle.lock_book.specs.Conflicts.{Blocks, FlockConflict, NoneConflict}
-use Rattle.wait_core.specs.declared.Family.{Family}
-use Rattle.wait_core.specs.declared.Family.TheVariants.{Bytes, Whole}
 use Rattle.wait_core.specs.Blocking.{IsBlockedIn}
-use Rattle.history_core.specs.declared.request.Action.{Action}
 use Rattle.history_core.specs.declared.request.Action.TheVariants.{FlockWait, Wait}
-use Rattle.history_core.specs.Locks.{BlocksBytes, BlocksFlock, FileLocks, with_bytes, with_flock}
-use Rattle.history_core.specs.Permitted.{Did, MayHave, locks_when_done}
-use Rattle.lock_server.specs.declared.Pending.{Pending}
-use Rattle.lock_server.specs.Files.{ClearsBytes, FileState, SameFile, SetsBytes, SetsFlock, SetsLock, by_owner, locks_on}
+use Rattle.history_core.specs.Locks.{BlocksBytes, BlocksFlock, with_bytes, with_flock}
+use Rattle.history_core.specs.Permitted.{locks_when_done}
+use Rattle.lock_server.specs.Files.{ClearsBytes, SetsBytes, SetsFlock, by_owner, locks_on}
 use Rattle.lock_server.specs.Locks.{IsInTheWay}
 use Rattle.lock_server.specs.Pendings.{as_wait}
-use Rattle.history_of_server.specs.ServerLines.{all_bytes}
 
 -- the file has these locks
 pub record Holds (F : FileState) (locks : FileLocks) : Type 0 where

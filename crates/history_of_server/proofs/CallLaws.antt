@@ -1,34 +1,22 @@
 -- What each call on one file brings is permitted, and the history follows the state that it leaves.
-use Rattle.std.proofs.Common.{inl, inr, ℕ, ◌≡◌, ◌≢◌, ◌∙◌, ◌≤◌, ◌==◌, sym, ap, refl, subst, arith, true, false, Bool, Option, Some, None, List, [], ◌∷◌}
-use Rattle.std.proofs.lemmas.Bool.{cases_eq, eqb-true, false≢true, ne_eqb}
-use Rattle.std.specs.Prelude.{if◌then◌else◌}
-use Rattle.range_core.specs.declared.TheConstants.{OFFMAX}
-use Rattle.range_core.specs.declared.Mode.{Mode}
-use Rattle.range_core.specs.declared.Span.{Span}
+use Rattle.history_of_server.proofs.Common.{inl, inr, ℕ, ◌≡◌, ◌≢◌, ◌∙◌, ◌≤◌, ◌==◌, sym, ap, refl, subst, arith, true, false, Bool, Option, Some, None, List, [], ◌∷◌, cases_eq, eqb-true, false≢true, ne_eqb, if◌then◌else◌}
+use Rattle.history_of_server.proofs.Common.{OFFMAX, Mode, Span, Family, Bytes, Whole, Policy, Action, FileLocks, Converts, Did, MayHave, MayTell, locks_behind, IsOpen, Open, World, is_death, opened, Answered, HistoryLine, Sent, Pending, FileState, SameFile, State, WaitComesTo, Names, all_bytes, exchange, request_of}
 use Rattle.range_core.specs.Ranges.{HeldConflicts, IsByteRange, IsRun, Modes}
 use Rattle.lock_book.specs.declared.Owner.TheVariants.{Description}
-use Rattle.wait_core.specs.declared.Family.{Family}
-use Rattle.wait_core.specs.declared.Family.TheVariants.{Bytes, Whole}
-use Rattle.wait_core.specs.declared.Policy.{Policy}
-use Rattle.history_core.specs.declared.request.Action.{Action}
 use Rattle.history_core.specs.declared.request.Action.TheVariants as actions
 use Rattle.history_core.specs.declared.request.Answer.TheVariants as answers
-use Rattle.history_core.specs.Locks.{BlocksFlock, FileLocks, bytes_without, with_flock}
-use Rattle.history_core.specs.Permitted.{Converts, Did, MayHave, MayTell, NothingMayTell, Saw, locks_behind}
-use Rattle.history_core.specs.Moments.{IsOpen, Open, World, is_death, opened}
-use Rattle.history_judge.specs.Histories.{Answered, HistoryLine, Sent}
+use Rattle.history_core.specs.Locks.{BlocksFlock, bytes_without, with_flock}
+use Rattle.history_core.specs.Permitted.{NothingMayTell, Saw}
 use Rattle.lock_server.specs.declared.Answer.{Answer as ServerAnswer}
 use Rattle.lock_server.specs.declared.Conversion.{Conversion}
 use Rattle.lock_server.specs.declared.Conversion.TheVariants.{Atomic, Stepwise}
 use Rattle.lock_server.specs.declared.Lock.{Lock}
-use Rattle.lock_server.specs.declared.Pending.{Pending}
 use Rattle.lock_server.specs.declared.Rules.{Rules}
 use Rattle.lock_server.specs.declared.WaitAnswer.{WaitAnswer}
 use Rattle.lock_server.specs.Agreement.{GetComesTo}
-use Rattle.lock_server.specs.Files.{FileState, SameFile}
-use Rattle.lock_server.specs.States.{SameState, State}
-use Rattle.lock_server.specs.Calls.{Cancels, ConversionComesTo, FetchComesTo, FlockFrom, FlockOpComesTo, FlockWaitComesTo, FlockWaitFrom, LeavesOn, Releases, ReleasesOn, SetComesTo, WaitComesTo, WaitConversionComesTo, byte_request, flock_request, no_ticket}
-use Rattle.history_of_server.specs.ServerLines.{Names, all_bytes, answered_at_once, exchange, flock_action, named_behind, request_of, set_action, told_answer, told_lock}
+use Rattle.lock_server.specs.States.{SameState}
+use Rattle.lock_server.specs.Calls.{Cancels, ConversionComesTo, FetchComesTo, FlockFrom, FlockOpComesTo, FlockWaitComesTo, FlockWaitFrom, LeavesOn, Releases, ReleasesOn, SetComesTo, WaitConversionComesTo, byte_request, flock_request, no_ticket}
+use Rattle.history_of_server.specs.ServerLines.{answered_at_once, flock_action, named_behind, set_action, told_answer, told_lock}
 use Rattle.history_of_server.proofs.ListLemmas.{Apart, Each, each_weaker, apart_between, each_between}
 use Rattle.history_of_server.proofs.PartLemmas.{path_append}
 use Rattle.history_of_server.proofs.BlockLemmas.{Holds, action_of, conflict_of_block, conflict_of_flock, held_free, holds_cleared, holds_flock, holds_set, sound_cleared, sound_set, sound_unlocked}

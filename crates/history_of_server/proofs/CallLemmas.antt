@@ -1,31 +1,19 @@
 -- What each call on one file leaves of the history: byte locks, flock locks, waits and their ends.
-use Rattle.std.proofs.Common.{inl, inr, ℕ, ◌≡◌, ◌≢◌, ◌∙◌, ◌≤◌, sym, ap, refl, subst, true, false, Bool, Some, List, [], ◌∷◌, eq-eqb}
-use Rattle.std.proofs.lemmas.Bool.{cases_eq, ne_eqb}
-use Rattle.std.specs.Prelude.{if◌then◌else◌, IsTrue}
-use Rattle.range_core.specs.declared.TheConstants.{OFFMAX}
-use Rattle.range_core.specs.declared.Mode.{Mode}
-use Rattle.range_core.specs.declared.Span.{Span}
-use Rattle.wait_core.specs.declared.Family.{Family}
-use Rattle.wait_core.specs.declared.Family.TheVariants.{Bytes, Whole}
-use Rattle.wait_core.specs.declared.Policy.{Policy}
+use Rattle.history_of_server.proofs.Common.{inl, inr, ℕ, ◌≡◌, ◌≢◌, ◌∙◌, ◌≤◌, sym, ap, refl, subst, true, false, Bool, Some, List, [], ◌∷◌, eq-eqb, cases_eq, ne_eqb, if◌then◌else◌, OFFMAX, Mode, Span, Family, Bytes, Whole, Policy, Action, FileLocks, Did, MayHave, MayTell, locks_behind, IsOpen, World, is_death, opened, Answered, Pending, FileState, SameFile, SetsLock, State, WaitComesTo, Names, request_of}
+use Rattle.std.specs.Prelude.{IsTrue}
 use Rattle.wait_core.specs.declared.Policy.TheVariants.{Held, Queue}
 use Rattle.wait_core.specs.Blocking.{IsBlockedIn}
-use Rattle.history_core.specs.declared.request.Action.{Action}
 use Rattle.history_core.specs.declared.request.Action.TheVariants as actions
 use Rattle.history_core.specs.declared.request.Answer.TheVariants as answers
-use Rattle.history_core.specs.Locks.{FileLocks}
-use Rattle.history_core.specs.Permitted.{Did, MayHave, MayTell, WasBlocked, locks_behind, may_deadlock}
-use Rattle.history_core.specs.Moments.{IsOpen, World, is_death, opened}
-use Rattle.history_judge.specs.Histories.{Answered}
+use Rattle.history_core.specs.Permitted.{WasBlocked, may_deadlock}
 use Rattle.lock_server.specs.declared.Answer.{Answer as ServerAnswer}
 use Rattle.lock_server.specs.declared.WaitAnswer.{WaitAnswer}
-use Rattle.lock_server.specs.declared.Pending.{Pending}
-use Rattle.lock_server.specs.Files.{FileState, SameFile, SetsLock, locks_on}
+use Rattle.lock_server.specs.Files.{locks_on}
 use Rattle.lock_server.specs.Pendings.{as_wait, tickets_of}
 use Rattle.lock_server.specs.Settling.{IsBlockedUnless, IsHeldBack, IsWaitBlocked}
-use Rattle.lock_server.specs.States.{IsTaken, SameState, SettlesFile, State}
-use Rattle.lock_server.specs.Calls.{Gives, Suspends, TestAtOnceComesTo, TestComesTo, WaitAtOnceComesTo, WaitComesTo}
-use Rattle.history_of_server.specs.ServerLines.{Names, answered_at_once, named, named_behind, request_of, told_answer}
+use Rattle.lock_server.specs.States.{IsTaken, SameState, SettlesFile}
+use Rattle.lock_server.specs.Calls.{Gives, Suspends, TestAtOnceComesTo, TestComesTo, WaitAtOnceComesTo}
+use Rattle.history_of_server.specs.ServerLines.{answered_at_once, named, named_behind, told_answer}
 use Rattle.history_of_server.proofs.ListLemmas.{Apart, Each, apart_push, apart_renamed, each_append, each_both, each_not, each_other, each_weaker}
 use Rattle.history_of_server.proofs.PartLemmas.{path_append, path_none}
 use Rattle.history_of_server.proofs.BlockLemmas.{Holds, IsSound, action_of, block_of_conflict, blocked_lacks, conflict_of_block, conflict_of_flock, flock_of_conflict, holds_got, may_get, sound_got, sound_same}

@@ -1,20 +1,13 @@
 -- What a last close brings, and owners, clients and files that are gone.
-use Rattle.std.proofs.Common.{inl, inr, ℕ, ◌≡◌, ◌≢◌, ◌∙◌, ◌==◌, sym, ap, refl, subst, arith, true, false, Bool, Option, Some, None, List, [], ◌∷◌, ◌++◌, zero, suc, length, eq-eqb}
-use Rattle.std.proofs.lemmas.Bool.{cases_eq, false≢true, ne_eqb}
-use Rattle.std.specs.Prelude.{◌⊎◌, Any, Contains, filter, if◌then◌else◌, not}
-use Rattle.range_core.specs.declared.Mode.{Mode}
-use Rattle.wait_core.specs.declared.Policy.{Policy}
+use Rattle.history_of_server.proofs.Common.{inl, inr, ℕ, ◌≡◌, ◌≢◌, ◌∙◌, ◌==◌, sym, ap, refl, subst, arith, true, false, Bool, Option, Some, None, List, [], ◌∷◌, ◌++◌, zero, suc, eq-eqb, cases_eq, false≢true, ne_eqb, ◌⊎◌, Contains, filter, if◌then◌else◌, not, Mode, Policy, World, HistoryLine, Pending, FileState, SameFile, State, Names, all_bytes}
+use Rattle.std.proofs.Common.{length}
+use Rattle.std.specs.Prelude.{Any}
 use Rattle.history_core.specs.declared.request.Action.TheVariants as actions
-use Rattle.history_core.specs.Moments.{World}
-use Rattle.history_judge.specs.Histories.{HistoryLine}
-use Rattle.lock_server.specs.declared.Pending.{Pending}
 use Rattle.lock_server.specs.Agreement.{Through}
 use Rattle.lock_server.specs.Clients.{ForgetsFile, ForgetsOwners, SettlesBelow, is_within}
 use Rattle.lock_server.specs.Closing.{Closes, is_through}
-use Rattle.lock_server.specs.Files.{FileState, SameFile}
 use Rattle.lock_server.specs.Openings.{is_number}
-use Rattle.lock_server.specs.States.{State}
-use Rattle.history_of_server.specs.ServerLines.{AreGone, AreGoneFrom, AreReleased, IsThere, Names, all_bytes, deaths_on, exchange_each, unlock_of}
+use Rattle.history_of_server.specs.ServerLines.{AreGone, AreGoneFrom, AreReleased, IsThere, deaths_on, exchange_each, unlock_of}
 use Rattle.history_of_server.proofs.ListLemmas.{Each, each_passes, each_weaker}
 use Rattle.history_of_server.proofs.PartLemmas.{path_none, put_here, put_other}
 use Rattle.history_of_server.proofs.FollowLemmas.{Follows, Next, follows_same, next_append, settled_next}

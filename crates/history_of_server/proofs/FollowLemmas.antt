@@ -1,23 +1,13 @@
 -- The whole server beside its history: what each of a request's moments keeps.
-use Rattle.std.proofs.Common.{inl, inr, ℕ, ◌≡◌, ◌≢◌, ◌∙◌, ◌≤◌, ◌+◌, sym, refl, subst, arith, false, Bool, None, List, [], ◌∷◌, ◌++◌, map}
-use Rattle.std.proofs.lemmas.Bool.{cases_eq}
+use Rattle.history_of_server.proofs.Common.{inl, inr, ℕ, ◌≡◌, ◌≢◌, ◌∙◌, ◌≤◌, sym, refl, subst, arith, false, Bool, None, List, [], ◌∷◌, ◌++◌, map, cases_eq, ◌⊎◌}
+use Rattle.history_of_server.proofs.Common.{OFFMAX, Policy, Request, Action, FileLocks, Converts, Effect, MayHave, MayTell, locks_behind, IsFree, IsOpen, Open, World, behind_effect, closed, is_death, opened, with_open, Answered, HistoryLine, Sent, Pending, FileState, SameFile, Settles, State, Names, exchange, request_of}
+use Rattle.std.proofs.Common.{◌+◌}
 use Rattle.std.proofs.lemmas.List.{append-nil}
-use Rattle.std.specs.Prelude.{◌⊎◌}
-use Rattle.range_core.specs.declared.TheConstants.{OFFMAX}
-use Rattle.wait_core.specs.declared.Policy.{Policy}
-use Rattle.history_core.specs.declared.request.Request.{Request}
-use Rattle.history_core.specs.declared.request.Action.{Action}
 use Rattle.history_core.specs.declared.request.Answer.{Answer}
-use Rattle.history_core.specs.Locks.{FileLocks}
-use Rattle.history_core.specs.Permitted.{Converts, Effect, MayHave, MayTell, locks_behind}
-use Rattle.history_core.specs.Moments.{IsFree, IsOpen, Open, World, behind_effect, behind_loss, closed, is_death, opened, with_open}
-use Rattle.history_judge.specs.Histories.{Answered, HistoryLine, Sent}
-use Rattle.lock_server.specs.declared.Pending.{Pending}
-use Rattle.lock_server.specs.Files.{FileState, SameFile, SetsFlock}
+use Rattle.history_core.specs.Moments.{behind_loss}
+use Rattle.lock_server.specs.Files.{SetsFlock}
 use Rattle.lock_server.specs.Pendings.{tickets_of}
-use Rattle.lock_server.specs.Settling.{Settles}
-use Rattle.lock_server.specs.States.{SettlesFile, State}
-use Rattle.history_of_server.specs.ServerLines.{Names, exchange, request_of}
+use Rattle.lock_server.specs.States.{SettlesFile}
 use Rattle.history_of_server.proofs.ListLemmas.{Apart, Each, each_append, each_both, each_weaker}
 use Rattle.history_of_server.proofs.WorldLemmas.{closed_here, closed_other, free_or_open, open_not_free, sent_here, sent_other}
 use Rattle.history_of_server.proofs.PartLemmas.{Path, part_answered, part_effect, part_loss, part_sent, path_append, path_of_part, put, put_here, put_other}

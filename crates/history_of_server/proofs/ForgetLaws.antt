@@ -1,24 +1,11 @@
 -- What an owner that is no more brings: its unlocks first, and then what its leaving lets be granted.
-use Rattle.std.proofs.Common.{inl, inr, ℕ, ◌≡◌, ◌≢◌, ◌∙◌, ◌≤◌, ◌==◌, sym, ap, refl, subst, arith, true, false, Bool, Option, Some, None, List, [], ◌∷◌, ◌++◌, zero, suc, eq-eqb}
-use Rattle.std.proofs.lemmas.Bool.{cases_eq, eqb-true, false≢true, ne_eqb}
-use Rattle.std.specs.Prelude.{◌⊎◌, ◌&&◌, Contains, if◌then◌else◌, not}
-use Rattle.range_core.specs.declared.TheConstants.{OFFMAX}
-use Rattle.range_core.specs.declared.Mode.{Mode}
+use Rattle.history_of_server.proofs.Common.{inl, inr, ℕ, ◌≡◌, ◌≢◌, ◌∙◌, ◌≤◌, ◌==◌, sym, ap, refl, subst, arith, true, false, Bool, Option, Some, None, List, [], ◌∷◌, ◌++◌, zero, suc, eq-eqb, cases_eq, eqb-true, false≢true, ne_eqb, ◌⊎◌, ◌&&◌, Contains, if◌then◌else◌, not, OFFMAX, Mode, Family, Bytes, Whole, Policy, World, HistoryLine, Pending, FileState, SameFile, SetsLock, Settles, State, Names, all_bytes, exchange}
 use Rattle.range_core.specs.Changes.{is_covered}
-use Rattle.wait_core.specs.declared.Family.{Family}
-use Rattle.wait_core.specs.declared.Family.TheVariants.{Bytes, Whole}
-use Rattle.wait_core.specs.declared.Policy.{Policy}
 use Rattle.history_core.specs.declared.request.Action.TheVariants as actions
 use Rattle.history_core.specs.declared.request.Answer.TheVariants as answers
-use Rattle.history_core.specs.Moments.{World}
-use Rattle.history_judge.specs.Histories.{HistoryLine}
-use Rattle.lock_server.specs.declared.Pending.{Pending}
 use Rattle.lock_server.specs.Calls.{Forgets, ForgetsIn, ForgetsOn, is_other_wait}
-use Rattle.lock_server.specs.Files.{FileState, SameFile, SetsLock}
 use Rattle.lock_server.specs.Pendings.{is_of_bytes}
-use Rattle.lock_server.specs.Settling.{Settles}
-use Rattle.lock_server.specs.States.{State}
-use Rattle.history_of_server.specs.ServerLines.{AreForgotten, Names, all_bytes, exchange, exchange_on}
+use Rattle.history_of_server.specs.ServerLines.{AreForgotten, exchange_on}
 use Rattle.history_of_server.proofs.ListLemmas.{Apart, Each, apart_filter, each_filter, each_passes}
 use Rattle.history_of_server.proofs.PartLemmas.{path_none, put_here, put_other}
 use Rattle.history_of_server.proofs.TrackLemmas.{IsDone, IsWaiting, Tracks, grant_waits, name_of, tracks_same}

@@ -1,4 +1,5 @@
 -- Lemmas.
+mod Common
 pub mod ListLemmas
 pub mod WorldLemmas
 pub mod PartLemmas

@@ -1,6 +1,7 @@
 -- What holds of each element of a list, and of each two.
-use Rattle.std.proofs.Common.{ℕ, ◌≡◌, ◌≢◌, sym, arith, refl, subst, Bool, true, false, List, [], ◌∷◌, ◌++◌, suc, length}
-use Rattle.std.specs.Prelude.{Any, Contains, filter, if◌then◌else◌}
+use Rattle.history_of_server.proofs.Common.{ℕ, ◌≡◌, ◌≢◌, sym, arith, refl, subst, Bool, true, false, List, [], ◌∷◌, ◌++◌, suc, Contains, filter, if◌then◌else◌}
+use Rattle.std.proofs.Common.{length}
+use Rattle.std.specs.Prelude.{Any}
 
 -- each of them is so
 abbrev pub Each : {X : Type 0} → (X → Type 0) → List X → Type 0

@@ -1,13 +1,10 @@
 -- Moments on one file, and that they are moments of a whole history.
-use Rattle.std.proofs.Common.{inl, inr, ℕ, ◌≡◌, ◌≢◌, ◌∙◌, ◌==◌, sym, ap, refl, subst, true, false, Bool, List, [], ◌∷◌, ◌++◌, map, eq-eqb}
-use Rattle.std.proofs.lemmas.Bool.{cases_eq, ne_eqb}
+use Rattle.history_of_server.proofs.Common.{inl, inr, ℕ, ◌≡◌, ◌≢◌, ◌∙◌, ◌==◌, sym, ap, refl, subst, true, false, Bool, List, [], ◌∷◌, ◌++◌, map, eq-eqb, cases_eq, ne_eqb, if◌then◌else◌, Request, Converts, Effect, MayHave, MayTell, IsFree, IsOpen, Open, World, behind_effect, closed, with_open, HistoryLine}
 use Rattle.std.proofs.lemmas.List.{append_assoc}
-use Rattle.std.specs.Prelude.{if◌then◌else◌}
-use Rattle.history_core.specs.declared.request.Request.{Request}
 use Rattle.history_core.specs.declared.request.Answer.{Answer}
-use Rattle.history_core.specs.Permitted.{Converts, Effect, MayHave, MayTell, NotYet}
-use Rattle.history_core.specs.Moments.{Answered, Comes, Effects, FileLine, HasSetNothing, IsFree, IsOpen, Leads, LetsGo, Line, Moment, Open, Sent, World, behind_effect, behind_loss, closed, lines_among, with_open}
-use Rattle.history_judge.specs.Histories.{HistoryLine, line_of, lines_at}
+use Rattle.history_core.specs.Permitted.{NotYet}
+use Rattle.history_core.specs.Moments.{Answered, Comes, Effects, FileLine, HasSetNothing, Leads, LetsGo, Line, Moment, Sent, behind_loss, lines_among}
+use Rattle.history_judge.specs.Histories.{line_of, lines_at}
 use Rattle.history_judge.specs.Histories as history
 use Rattle.history_of_server.proofs.ListLemmas.{Each}
 

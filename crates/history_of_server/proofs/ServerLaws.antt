@@ -1,21 +1,16 @@
 -- What the clients of a server see is permitted, call by call and of a whole run.
-use Rattle.std.proofs.Common.{inl, inr, ℕ, ◌≡◌, sym, refl, subst, true, false, Bool, Option, Some, None, List, [], ◌∷◌}
-use Rattle.std.proofs.lemmas.Bool.{false≢true}
-use Rattle.range_core.specs.declared.Mode.{Mode}
-use Rattle.range_core.specs.declared.Span.{Span}
+use Rattle.history_of_server.proofs.Common.{inl, inr, ℕ, ◌≡◌, sym, refl, subst, true, false, Bool, Option, Some, None, List, [], ◌∷◌, false≢true, Mode, Span, World, HistoryLine, WaitComesTo, SameFile, State, Names}
 use Rattle.range_core.specs.Ranges.{IsByteRange}
 use Rattle.history_core.specs.declared.request.Action.TheVariants as actions
-use Rattle.history_core.specs.Moments.{World}
-use Rattle.history_judge.specs.Histories.{HistoryLine, beginnings}
+use Rattle.history_judge.specs.Histories.{beginnings}
 use Rattle.lock_server.specs.declared.Rules.{Rules}
 use Rattle.lock_server.specs.declared.server.LockServer.{LockServer}
 use Rattle.lock_server.specs.Agreement.{Call, CallComesTo, Reply, Tells, Through, WithTicket}
 use Rattle.lock_server.specs.Agreement as calls
-use Rattle.lock_server.specs.Calls.{CancelComesTo, FetchComesTo, FlockWaitComesTo, WaitComesTo, byte_request, flock_request}
-use Rattle.lock_server.specs.Files.{SameFile}
+use Rattle.lock_server.specs.Calls.{CancelComesTo, FetchComesTo, FlockWaitComesTo, byte_request, flock_request}
 use Rattle.lock_server.specs.ServerView.{rules_of, state_of, through_of}
-use Rattle.lock_server.specs.States.{State, opening}
-use Rattle.history_of_server.specs.ServerLines.{IsAsked, IsCancel, IsFetch, IsGet, IsSilent, IsTest, IsWait, Names, RunsAreLegal, Shows, ShowsRun, flock_action, set_action}
+use Rattle.lock_server.specs.States.{opening}
+use Rattle.history_of_server.specs.ServerLines.{IsAsked, IsCancel, IsFetch, IsGet, IsSilent, IsTest, IsWait, RunsAreLegal, Shows, ShowsRun, flock_action, set_action}
 use Rattle.history_of_server.proofs.PartLemmas.{LegalFrom, path_none}
 use Rattle.history_of_server.proofs.FollowLemmas.{Follows, Next, follows_same}
 use Rattle.history_of_server.proofs.CallLemmas.{fresh_of}

@@ -1,23 +1,15 @@
 -- Locks that leave a file, and owners that die on it, one after another.
-use Rattle.std.proofs.Common.{inl, inr, ℕ, ◌≡◌, ◌≢◌, ◌∙◌, ◌≤◌, ◌==◌, sym, ap, refl, subst, arith, true, false, Bool, Option, Some, None, List, [], ◌∷◌, zero, suc, eq-eqb}
+use Rattle.history_of_server.proofs.Common.{inl, inr, ℕ, ◌≡◌, ◌≢◌, ◌∙◌, ◌≤◌, ◌==◌, sym, ap, refl, subst, arith, true, false, Bool, Option, Some, None, List, [], ◌∷◌, zero, suc, eq-eqb, eqb-true, false≢true, ◌&&◌, Contains, filter, if◌then◌else◌, not, option_map}
+use Rattle.history_of_server.proofs.Common.{OFFMAX, Mode, Request, Action, FileLocks, Did, MayTell, locks_behind, IsOpen, World, behind_effect, opened, Answered, Sent, Pending, FileState, SameFile, State, Names, all_bytes, exchange, request_of}
 use Rattle.std.proofs.lemmas.Grind.{common_steps}
-use Rattle.std.proofs.lemmas.Bool.{cases_Bool, eqb-true, false≢true}
+use Rattle.std.proofs.lemmas.Bool.{cases_Bool}
 use Rattle.std.proofs.lemmas.List.Elements.{All-head, All-tail}
-use Rattle.std.specs.Prelude.{◌&&◌, All, Contains, filter, if◌then◌else◌, not, option_map}
-use Rattle.range_core.specs.declared.TheConstants.{OFFMAX}
-use Rattle.range_core.specs.declared.Mode.{Mode}
-use Rattle.history_core.specs.declared.request.Request.{Request}
-use Rattle.history_core.specs.declared.request.Action.{Action}
+use Rattle.std.specs.Prelude.{All}
 use Rattle.history_core.specs.declared.request.Action.TheVariants as actions
 use Rattle.history_core.specs.declared.request.Answer.TheVariants as answers
-use Rattle.history_core.specs.Locks.{FileLocks, without_owner}
-use Rattle.history_core.specs.Permitted.{Did, MayTell, locks_behind}
-use Rattle.history_core.specs.Moments.{IsOpen, World, behind_effect, ends, opened}
-use Rattle.history_judge.specs.Histories.{Answered, Sent}
-use Rattle.lock_server.specs.declared.Pending.{Pending}
-use Rattle.lock_server.specs.Files.{FileState, SameFile}
-use Rattle.lock_server.specs.States.{State}
-use Rattle.history_of_server.specs.ServerLines.{Names, all_bytes, exchange, exchange_each, request_of}
+use Rattle.history_core.specs.Locks.{without_owner}
+use Rattle.history_core.specs.Moments.{ends}
+use Rattle.history_of_server.specs.ServerLines.{exchange_each}
 use Rattle.history_of_server.proofs.ListLemmas.{Each, apart_filter, each_both, each_filter, each_passes, each_weaker}
 use Rattle.history_of_server.proofs.WorldLemmas.{behind, behind_other, effect_look}
 use Rattle.history_of_server.proofs.PartLemmas.{part_effect, path_append, path_none, path_of_part, put, put_here, put_other}

@@ -1,18 +1,8 @@
 -- A file of the server beside its world in the history, and that what settling grants may happen there.
-use Rattle.std.proofs.Common.{inl, ℕ, ◌≡◌, ◌≢◌, ◌∙◌, ◌≤◌, sym, ap, refl, subst, false, Bool, Some, List, [], ◌∷◌}
-use Rattle.std.specs.Prelude.{option_map}
-use Rattle.range_core.specs.declared.TheConstants.{OFFMAX}
-use Rattle.wait_core.specs.declared.Family.{Family}
-use Rattle.wait_core.specs.declared.Family.TheVariants.{Bytes, Whole}
-use Rattle.wait_core.specs.declared.Policy.{Policy}
+use Rattle.history_of_server.proofs.Common.{inl, ℕ, ◌≡◌, ◌≢◌, ◌∙◌, ◌≤◌, sym, ap, refl, subst, false, Bool, Some, List, [], ◌∷◌, option_map, OFFMAX, Family, Bytes, Whole, Policy, Request, Did, Effect, IsFree, IsOpen, Open, World, behind_effect, is_death, opened, Pending, FileState, SameFile, Settles, request_of}
 use Rattle.wait_core.specs.declared.Policy.TheVariants.{Held, Queue}
-use Rattle.history_core.specs.declared.request.Request.{Request}
-use Rattle.history_core.specs.Permitted.{Did, Effect, NotYet}
-use Rattle.history_core.specs.Moments.{IsFree, IsOpen, Open, World, behind_effect, is_death, opened}
-use Rattle.lock_server.specs.declared.Pending.{Pending}
-use Rattle.lock_server.specs.Files.{FileState, SameFile}
-use Rattle.lock_server.specs.Settling.{Grants, IsHeldBack, IsWaitBlocked, Settles}
-use Rattle.history_of_server.specs.ServerLines.{request_of}
+use Rattle.history_core.specs.Permitted.{NotYet}
+use Rattle.lock_server.specs.Settling.{Grants, IsHeldBack, IsWaitBlocked}
 use Rattle.history_of_server.proofs.ListLemmas.{Apart, Each, apart_between, each_between, each_both, each_weaker}
 use Rattle.history_of_server.proofs.WorldLemmas.{behind, behind_effect_kept, behind_other, behind_own, behind_request, effect_look, ends_none, look, one_open, open_named}
 use Rattle.history_of_server.proofs.PartLemmas.{Part, part_append, part_effect, part_none}

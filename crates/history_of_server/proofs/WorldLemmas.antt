@@ -1,11 +1,9 @@
 -- What is open in a world behind a line and behind an effect.
-use Rattle.std.proofs.Common.{inl, inr, ℕ, ◌≡◌, ◌≢◌, ◌∙◌, ◌==◌, sym, ap, refl, arith, true, false, Bool, Option, Some, None, List, [], ◌∷◌, ◌++◌, map, eq-eqb}
+use Rattle.history_of_server.proofs.Common.{inl, inr, ℕ, ◌≡◌, ◌≢◌, ◌∙◌, ◌==◌, sym, ap, refl, arith, true, false, Bool, Option, Some, None, List, [], ◌∷◌, ◌++◌, map, eq-eqb, eqb-true, false≢true, ne_eqb, ◌⊎◌, ◌&&◌, filter, not, option_map, if◌then◌else◌, Request, Effect, IsFree, IsOpen, Open, World, behind_effect, closed, is_death, opened, with_open}
 use Rattle.std.proofs.lemmas.Grind.{common_steps}
-use Rattle.std.proofs.lemmas.Bool.{cases_Bool, eqb-true, false≢true, ne_eqb}
-use Rattle.std.specs.Prelude.{◌⊎◌, ◌&&◌, find, filter, not, option_map, if◌then◌else◌}
-use Rattle.history_core.specs.declared.request.Request.{Request}
-use Rattle.history_core.specs.Permitted.{Effect}
-use Rattle.history_core.specs.Moments.{IsFree, IsOpen, Open, World, behind_effect, closed, ended, ends, is_death, is_named, opened, with_effect, with_open}
+use Rattle.std.proofs.lemmas.Bool.{cases_Bool}
+use Rattle.std.specs.Prelude.{find}
+use Rattle.history_core.specs.Moments.{ended, ends, is_named, with_effect}
 
 -- the open request of the ID
 abbrev pub look : World → ℕ → Option Open

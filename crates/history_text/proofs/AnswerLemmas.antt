@@ -1,20 +1,10 @@
 -- The words of an answer: for `read_named` and `read_held_words`.
-use Rattle.std.proofs.lemmas.Grind.{common_steps}
-use Rattle.std.proofs.Common.{◌≡◌, ℕ, true, false, Option, List, [], ◌∷◌, Result, Ok, Err, MatchBool, MatchResult, codes, ap, inr, arith}
-use Rattle.script_core.specs.declared.script.Cause.{Cause}
-use Rattle.range_core.specs.declared.Mode.{Mode}
-use Rattle.range_core.specs.declared.Span.{Span}
-use Rattle.script_core.specs.declared.script.Cause.TheVariants.{Number}
-use Rattle.script_core.specs.RequestText.{mode_word}
+use Rattle.history_text.proofs.Common.{common_steps, ◌≡◌, ℕ, true, false, Option, List, [], ◌∷◌, Result, Ok, Err, MatchBool, codes, inr, arith, Cause, Mode, Span, Number, mode_word, Action, Answer, Held, HistoryLine, told_words, owner_word, span_words, is_turned_answer, HasSmallOwner, HasSmallBytes, TellsSmallNumbers, AnswerIsGiven, bytes_eq-Decides}
+use Rattle.std.proofs.Common.{MatchResult, ap}
 use Rattle.script_core.specs.Arguments.{AreRefused}
-use Rattle.history_core.specs.declared.request.Action.{Action}
-use Rattle.history_core.specs.declared.request.Answer.{Answer}
-use Rattle.history_core.specs.declared.request.Answer.TheVariants.{Held}
-use Rattle.history_text.specs.declared.line.HistoryLine.{HistoryLine}
 use Rattle.history_text.specs.declared.line.HistoryLine.TheVariants as lines
-use Rattle.history_text.specs.HistoryText.{answer_word, told_words, owner_word, span_words, is_turned_span, is_turned_answer, HasSmallOwner, HasSmallBytes, TellsSmallNumbers}
-use Rattle.history_text.specs.HistoryReading.{AnswerIsGiven, ToldGives, has_answer, told_count}
-use Rattle.std.proofs.lemmas.Slice.Eq.{bytes_eq-Decides}
+use Rattle.history_text.specs.HistoryText.{answer_word, is_turned_span}
+use Rattle.history_text.specs.HistoryReading.{ToldGives, has_answer, told_count}
 
 -- an answer that nothing may stand behind
 pub alone_given : (id : ℕ) (answer : Answer) (told : List (List ℕ)) (result : Result HistoryLine Cause) → told_words answer ≡ []

@@ -1,10 +1,6 @@
 -- Words that are good, before others: for `read_lock_words`, `read_held_words` and others.
-use Rattle.std.proofs.lemmas.Grind.{common_steps}
-use Rattle.std.proofs.Common.{◌≡◌, ℕ, ◌^◌, ◌<◌, ◌≤◌, List, [], ◌∷◌, length, get_or, decimal, Bor, inl, arith}
-use Rattle.range_core.specs.declared.Mode.{Mode}
-use Rattle.script_core.specs.declared.script.Cause.{Cause}
-use Rattle.script_core.specs.Words.{texts}
-use Rattle.script_core.specs.RequestText.{mode_word}
+use Rattle.history_text.proofs.Common.{common_steps, ◌≡◌, ℕ, ◌^◌, ◌<◌, ◌≤◌, List, [], ◌∷◌, length, decimal, inl, arith, Mode, Cause, texts, mode_word}
+use Rattle.std.proofs.Common.{get_or, Bor}
 use Rattle.script_core.specs.Arguments.{Argument, UnsignedNumber, ModeWord, IsFirstBad}
 
 -- behind a number the first bad one is that of the others

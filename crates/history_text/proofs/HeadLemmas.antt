@@ -1,17 +1,12 @@
 -- How a line begins: for `read_head`.
-use Rattle.std.proofs.lemmas.Grind.{common_steps}
-use Rattle.std.proofs.Common.{◌≡◌, ℕ, ◌+◌, ◌<◌, ◌≤◌, Bool, true, false, Option, None, Some, IfSome, MatchBool, MatchOption, MatchResult, Result, Ok, Err, List, [], ◌∷◌, length, take, find, subst, refl, inl, inr, arith, ⊎_elim, bytes_eq, codes, decimal}
+use Rattle.history_text.proofs.Common.{common_steps, ◌≡◌, ℕ, ◌<◌, ◌≤◌, Bool, true, false, Option, None, Some, MatchBool, Result, Ok, Err, List, [], ◌∷◌, length, subst, refl, inl, inr, arith, codes, decimal, Cause, Word, words_of, is_printable, begins_with_hash, line_limit, Command, Action, HistoryLine, RequestIsGiven, SentGives, MaySend, MayAnswer, WordsGive}
+use Rattle.std.proofs.Common.{◌+◌, IfSome, MatchOption, MatchResult, take, find, ⊎_elim, bytes_eq}
 use Rattle.std.specs.List.{AllByRecursion as Each}
 use Rattle.std.proofs.lemmas.Bool.{cases_lt}
 use Rattle.std.proofs.lemmas.List.{length-take-le, take_all}
-use Rattle.script_core.specs.declared.script.Cause.{Cause}
-use Rattle.script_core.specs.declared.script.Cause.TheVariants.{Word}
-use Rattle.script_core.specs.Words.{words_of, is_printable, begins_with_hash, line_limit}
-use Rattle.script_core.specs.Arguments.{Command, has_count}
-use Rattle.history_core.specs.declared.request.Action.{Action}
-use Rattle.history_text.specs.declared.line.HistoryLine.{HistoryLine}
+use Rattle.script_core.specs.Arguments.{has_count}
 use Rattle.history_text.specs.declared.head.Head.{Head}
-use Rattle.history_text.specs.HistoryReading.{requests, RequestIsGiven, SentGives, AnsweredGives, MaySend, MayAnswer, NamedGives, WordsGive, LineGives, BeginWords, AreFaulty, Begins, IsFaulty}
+use Rattle.history_text.specs.HistoryReading.{requests, AnsweredGives, NamedGives, LineGives, BeginWords, AreFaulty, Begins, IsFaulty}
 
 -- a request has five words at most behind its own
 abbrev HasFew : Command → Type 0

@@ -1,3 +1,4 @@
+mod Common
 pub mod ArgumentLemmas
 pub mod RequestLemmas
 pub mod AnswerLemmas

@@ -1,28 +1,19 @@
 -- A line has one reading: for `lines_have_one_reading`.
-use Rattle.std.proofs.lemmas.Grind.{common_steps}
-use Rattle.std.proofs.Common.{rules, ◌≡◌, ◌∙◌, ℕ, suc, ◌<◌, ◌^◌, Bool, true, false, cond, nat_lt, Option, Some, None, MatchBool, MatchOption, Result, Ok, Err, List, [], ◌∷◌, ◌++◌, ◌==◌, length, find, get_or, codes, decimal, unwrap_or, inl, inr, refl, sym, ap, subst, arith, bytes_eq}
+use Rattle.history_text.proofs.Common.{common_steps, rules, ◌≡◌, ℕ, ◌<◌, ◌^◌, Bool, true, false, Option, Some, None, MatchBool, Result, Ok, Err, List, [], ◌∷◌, length, codes, decimal, inl, inr, refl, sym, subst, arith, bytes_eq-Decides}
+use Rattle.history_text.proofs.Common.{Mode, Span, Cause, Word, Number, words_of, is_printable, begins_with_hash, line_limit, mode_word, Command, Action, Flock, FlockUnlock, Close, Gone, Answer, Done, Busy, Interrupted, Deadlock, Free, Held, Error, HistoryLine, span_words, HasSmallBytes, request_word, action_words, is_turned_action, AsksForSmallBytes, owner_word, told_words, is_turned_answer, HasSmallOwner, TellsSmallNumbers, flock_request, whole_request, ArgumentsGive, RequestIsGiven, SentGives, AnswerIsGiven, MaySend, MayAnswer, WordsGive}
+use Rattle.std.proofs.Common.{◌∙◌, suc, cond, nat_lt, MatchOption, ◌++◌, ◌==◌, find, get_or, unwrap_or, ap, bytes_eq}
 use Rattle.std.specs.Str.Parse.{AllDigits, digits_value}
 use Rattle.std.proofs.lemmas.Fmt.{decimal_is_IsNumeral, decimal_injective}
 use Rattle.std.proofs.lemmas.Str.Parse.{digit_from_value}
-use Rattle.std.proofs.lemmas.Slice.Eq.{bytes_eq-Decides}
 use Rattle.std.proofs.lemmas.Bool.{false_from_ne_true}
-use Rattle.range_core.specs.declared.Mode.{Mode}
 use Rattle.range_core.specs.declared.Mode.TheVariants.{Read, Write}
-use Rattle.range_core.specs.declared.Span.{Span}
-use Rattle.script_core.specs.declared.script.Cause.{Cause}
-use Rattle.script_core.specs.declared.script.Cause.TheVariants.{Byte, Word, Count, Number, TooLong, Tag}
-use Rattle.script_core.specs.Words.{words_of, is_printable, begins_with_hash, line_limit}
-use Rattle.script_core.specs.RequestText.{mode_word}
-use Rattle.script_core.specs.Arguments.{Argument, UnsignedNumber, ModeWord, OpWord, NbWord, Spells, IsFirstBad, Command, has_count}
+use Rattle.script_core.specs.declared.script.Cause.TheVariants.{Byte, Count, TooLong, Tag}
+use Rattle.script_core.specs.Arguments.{Argument, UnsignedNumber, ModeWord, OpWord, NbWord, Spells, IsFirstBad, has_count}
 use Rattle.history_core.specs.declared.request.Request.{Request}
-use Rattle.history_core.specs.declared.request.Action.{Action}
-use Rattle.history_core.specs.declared.request.Action.TheVariants.{Set, Wait, Get, Unlock, Flock, FlockWait, FlockUnlock, Close, Gone}
-use Rattle.history_core.specs.declared.request.Answer.{Answer}
-use Rattle.history_core.specs.declared.request.Answer.TheVariants.{Done, Busy, Interrupted, Deadlock, Free, Held, Error}
-use Rattle.history_text.specs.declared.line.HistoryLine.{HistoryLine}
+use Rattle.history_core.specs.declared.request.Action.TheVariants.{Set, Wait, Get, Unlock, FlockWait}
 use Rattle.history_text.specs.declared.line.HistoryLine.TheVariants as lines
-use Rattle.history_text.specs.HistoryText.{span_words, HasSmallBytes, operation_word, request_word, action_words, is_turned_action, AsksForSmallBytes, HasSmallNumbers, owner_word, told_words, answer_words, is_turned_answer, HasSmallOwner, TellsSmallNumbers}
-use Rattle.history_text.specs.HistoryReading.{lock_request, unlock_request, flock_request, whole_request, requests, WordsGiveRequest, ArgumentsGive, RequestIsGiven, SentGives, IsOwner, IsFirstBadOfHeld, ToldGives, AnswerIsGiven, AnsweredGives, has_answer, told_count, MaySend, MayAnswer, AreNamed, AreNotNamed, NamedGives, WordsGive, TextGives, LinesHaveOneReading}
+use Rattle.history_text.specs.HistoryText.{operation_word, HasSmallNumbers, answer_words}
+use Rattle.history_text.specs.HistoryReading.{lock_request, unlock_request, requests, WordsGiveRequest, IsOwner, IsFirstBadOfHeld, ToldGives, AnsweredGives, has_answer, told_count, AreNamed, AreNotNamed, NamedGives, TextGives, LinesHaveOneReading}
 
 -- ---- one of two choices
 

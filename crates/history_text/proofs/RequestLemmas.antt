@@ -1,17 +1,8 @@
 -- The words of a request: for `read_named`, `read_unlock_words` and others.
 use Rattle.std.proofs.lemmas.Bool.{false_from_ne_true}
-use Rattle.std.proofs.Common.{◌≡◌, ℕ, ◌^◌, ◌<◌, false, List, [], ◌∷◌, Result, Ok, Err, MatchBool, codes, decimal, refl, sym, inl, inr}
+use Rattle.history_text.proofs.Common.{◌≡◌, ℕ, ◌^◌, ◌<◌, false, List, [], ◌∷◌, Result, Ok, Err, MatchBool, codes, decimal, refl, sym, inl, inr, bytes_eq-Decides, Cause, Word, Number, Command, Action, FlockUnlock, HistoryLine, request_word, action_words, is_turned_action, AsksForSmallBytes, ArgumentsGive, RequestIsGiven, whole_request}
 use Rattle.std.specs.Str.{bytes_eq}
-use Rattle.std.proofs.lemmas.Slice.Eq.{bytes_eq-Decides}
-use Rattle.script_core.specs.declared.script.Cause.{Cause}
-use Rattle.script_core.specs.declared.script.Cause.TheVariants.{Word, Number}
-use Rattle.script_core.specs.Arguments.{Command}
-use Rattle.history_core.specs.declared.request.Action.{Action}
-use Rattle.history_core.specs.declared.request.Action.TheVariants.{FlockUnlock}
-use Rattle.history_text.specs.declared.line.HistoryLine.{HistoryLine}
 use Rattle.history_text.specs.declared.line.HistoryLine.TheVariants as lines
-use Rattle.history_text.specs.HistoryText.{request_word, action_words, is_turned_action, AsksForSmallBytes}
-use Rattle.history_text.specs.HistoryReading.{ArgumentsGive, RequestIsGiven, whole_request}
 
 -- a word that differs from a request's isn't found under it
 pub not_named : (name word : List ℕ) → (word ≡ name → ⊥) → bytes_eq name word ≡ false

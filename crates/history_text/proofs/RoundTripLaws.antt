@@ -1,27 +1,19 @@
 -- What is written behind an ID is read back: for `requests_are_read_back` and `answers_are_read_back`.
-use Rattle.std.proofs.lemmas.Grind.{common_steps}
-use Rattle.std.proofs.Common.{◌≡◌, ℕ, ◌+◌, ◌^◌, ◌<◌, ◌≤◌, ◌==◌, Bool, nat_le, nat_lt, true, false, not, ◌&&◌, Option, Some, None, List, [], ◌∷◌, ◌++◌, length, filter, codes, decimal, Ok, inl, inr, refl, sym, subst, arith, tests, lit<, lit≤, length-append, append_assoc}
+use Rattle.history_text.proofs.Common.{common_steps, ◌≡◌, ℕ, ◌^◌, ◌<◌, ◌≤◌, Bool, true, false, Option, Some, None, List, [], ◌∷◌, length, codes, decimal, Ok, inl, inr, refl, sym, subst, arith}
+use Rattle.history_text.proofs.Common.{Mode, Span, words_of, is_printable, begins_with_hash, line_limit, mode_word, Command, Action, Flock, FlockUnlock, Close, Gone, Answer, Done, Busy, Interrupted, Deadlock, Free, Held, Error, HistoryLine, span_words, HasSmallBytes, request_word, action_words, is_turned_action, AsksForSmallBytes, owner_word, told_words, is_turned_answer, HasSmallOwner, TellsSmallNumbers, ArgumentsGive, flock_request, whole_request, SentGives, AnswerIsGiven, MaySend, MayAnswer, WordsGive}
+use Rattle.std.proofs.Common.{◌+◌, ◌==◌, nat_le, nat_lt, not, ◌&&◌, ◌++◌, filter, tests, lit<, lit≤, length-append, append_assoc}
 use Rattle.std.specs.Str.Parse.{AllDigits}
 use Rattle.std.specs.List.{list_all, slice_split, join_with_byte}
 use Rattle.std.proofs.lemmas.Fmt.{decimal_is_IsNumeral, length-decimal-le}
 use Rattle.std.proofs.lemmas.Str.Parse.{digit_from_value}
 use Rattle.std.proofs.lemmas.Bool.{le-ltb}
 use Rattle.std.proofs.lemmas.Bool.Decides.{nat_tests}
-use Rattle.range_core.specs.declared.Mode.{Mode}
 use Rattle.range_core.specs.declared.Mode.TheVariants.{Read, Write}
-use Rattle.range_core.specs.declared.Span.{Span}
-use Rattle.script_core.specs.Words.{words_of, is_printable, begins_with_hash, line_limit}
-use Rattle.script_core.specs.RequestText.{mode_word}
-use Rattle.script_core.specs.Arguments.{Command}
 use Rattle.history_core.specs.declared.request.Request.{Request}
-use Rattle.history_core.specs.declared.request.Action.{Action}
-use Rattle.history_core.specs.declared.request.Action.TheVariants.{Set, Wait, Get, Unlock, Flock, FlockWait, FlockUnlock, Close, Gone}
-use Rattle.history_core.specs.declared.request.Answer.{Answer}
-use Rattle.history_core.specs.declared.request.Answer.TheVariants.{Done, Busy, Interrupted, Deadlock, Free, Held, Error}
-use Rattle.history_text.specs.declared.line.HistoryLine.{HistoryLine}
+use Rattle.history_core.specs.declared.request.Action.TheVariants.{Set, Wait, Get, Unlock, FlockWait}
 use Rattle.history_text.specs.declared.line.HistoryLine.TheVariants as lines
-use Rattle.history_text.specs.HistoryText.{span_words, HasSmallBytes, operation_word, request_word, action_words, request_words, is_turned_action, AsksForSmallBytes, HasSmallNumbers, answer_word, owner_word, told_words, answer_words, is_turned_answer, HasSmallOwner, TellsSmallNumbers}
-use Rattle.history_text.specs.HistoryReading.{ArgumentsGive, lock_request, unlock_request, flock_request, whole_request, SentGives, AnswerIsGiven, MaySend, MayAnswer, AreNamed, WordsGive, LineGives, RequestsAreReadBack, AnswersAreReadBack}
+use Rattle.history_text.specs.HistoryText.{operation_word, request_words, HasSmallNumbers, answer_word, answer_words}
+use Rattle.history_text.specs.HistoryReading.{lock_request, unlock_request, AreNamed, LineGives, RequestsAreReadBack, AnswersAreReadBack}
 use Rattle.history_text.proofs.RequestLemmas.{request_given}
 
 -- ---- words in a line

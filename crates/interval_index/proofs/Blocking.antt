@@ -1,19 +1,10 @@
 -- Facts on runs that stand in the way.
-use Rattle.std.proofs.Common.{◌≡◌, ℕ, suc, ◌<◌, ◌≤◌, ◌⊎◌, inl, inr, Bool, true, false, not, cond, ◌&&◌, ◌||◌, leb, Option, Some, None, List, [], ◌∷◌, length, max, refl, sym, ap, ◌∙◌, arith}
-use Rattle.std.specs.List.{find, list_any, AllByRecursion, Any}
-use Rattle.std.specs.Option.{is_some}
-use Rattle.std.proofs.lemmas.Bool.Decides.{nat_tests}
+use Rattle.interval_index.proofs.Common.{◌≡◌, ℕ, ◌<◌, ◌≤◌, ◌⊎◌, Bool, true, false, not, cond, ◌&&◌, ◌||◌, leb, Option, Some, None, List, [], ◌∷◌, refl, sym, ap, ◌∙◌, arith, find, list_any, AllByRecursion, Any, is_some, nat_tests, Mode, Span, Conflict, Holder, Run, holder_of, is_same_holder, IsBefore, AreOrdered, beginning_by, conflicts_with, blocks}
+use Rattle.std.proofs.Common.{suc, inl, inr, length, max}
 use Rattle.std.proofs.lemmas.List.Folds.{list_any-from_Any}
-use Rattle.range_core.specs.declared.Mode.{Mode}
 use Rattle.range_core.specs.declared.Mode.TheVariants.{Read, Write}
-use Rattle.range_core.specs.declared.Span.{Span}
-use Rattle.range_core.specs.Ranges.{Conflict}
-use Rattle.interval_index.specs.declared.Holder.{Holder}
-use Rattle.interval_index.specs.declared.Run.{Run}
-use Rattle.interval_index.specs.Holders.{holder_of, is_same_holder}
 use Rattle.interval_index.proofs.HolderLemmas.{another_found, another_holds}
-use Rattle.interval_index.specs.Runs.{Blocks, IsBefore, AreOrdered}
-use Rattle.interval_index.specs.Tests.{beginning_by, conflicts_with, blocks}
+use Rattle.interval_index.specs.Runs.{Blocks}
 
 later_out : (P : Type 0) (a c t : ℕ) → (a < c) ⊎ ((a ≡ c) × P) → leb a t ≡ false → leb c t ≡ false
 later_out P a c t (inl h) k = grind (arith, nat_tests)

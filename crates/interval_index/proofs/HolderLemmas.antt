@@ -1,9 +1,8 @@
 -- Facts on owners.
-use Rattle.std.proofs.Common.{◌≡◌, ◌≢◌, ℕ, ◌<◌, ◌⊎◌, Bool, true, false, ◌&&◌, ◌||◌, ltb, eqb, leb, Option, Some, None, refl, sym, ap, ◌∙◌, arith}
+use Rattle.interval_index.proofs.Common.{◌≡◌, ◌≢◌, ℕ, ◌<◌, ◌⊎◌, Bool, true, false, ◌&&◌, ◌||◌, leb, Option, Some, None, refl, sym, ap, ◌∙◌, arith, nat_tests, Holder, is_same_holder, is_by}
+use Rattle.std.proofs.Common.{ltb, eqb}
 use Rattle.std.specs.Option.{option_eq}
-use Rattle.std.proofs.lemmas.Bool.Decides.{nat_tests}
-use Rattle.interval_index.specs.declared.Holder.{Holder}
-use Rattle.interval_index.specs.Holders.{is_same_holder, IsBeforeHolder, is_by}
+use Rattle.interval_index.specs.Holders.{IsBeforeHolder}
 
 same_parts : (a b c d : ℕ) → (eqb a b && eqb c d) ≡ true → (a ≡ b) × (c ≡ d)
 same_parts a b c d h = (grind (arith, nat_tests), grind (arith, nat_tests))

@@ -1,18 +1,11 @@
 -- The first byte that runs block, and the least owner that blocks there.
-use Rattle.std.proofs.Common.{◌≡◌, ◌≢◌, ℕ, zero, suc, ◌<◌, ◌≤◌, ◌⊎◌, inl, inr, Bool, true, false, not, cond, ◌&&◌, ◌||◌, leb, Option, Some, None, List, [], ◌∷◌, length, get_or, refl, sym, ap, ◌∙◌, subst, arith}
-use Rattle.std.specs.List.{find, list_any, AllByRecursion, Any}
+use Rattle.interval_index.proofs.Common.{◌≡◌, ◌≢◌, ℕ, ◌<◌, ◌≤◌, ◌⊎◌, Bool, true, false, not, cond, ◌&&◌, ◌||◌, leb, Option, Some, None, List, [], ◌∷◌, refl, sym, ap, ◌∙◌, subst, arith, find, list_any, AllByRecursion, Any, Mode, Span, Conflict, Holder, Run, Reaching, holder_of, is_same_holder, is_by, IsBefore, AreOrdered, begins_after, blocks, conflicts_with, reaches_lock, IsLeastOf}
+use Rattle.std.proofs.Common.{zero, suc, inl, inr, length, get_or}
 use Rattle.std.proofs.lemmas.Bool.{and_from, le-leb, le-ltb, leb-true, ltb-false, or_left, or_right}
-use Rattle.range_core.specs.declared.Mode.{Mode}
-use Rattle.range_core.specs.declared.Span.{Span}
-use Rattle.range_core.specs.Ranges.{Covers, Conflict, HeldConflicts}
+use Rattle.range_core.specs.Ranges.{Covers, HeldConflicts}
 use Rattle.summary_tree.specs.Cuts.{IsCutBy, before}
-use Rattle.interval_index.specs.declared.Holder.{Holder}
-use Rattle.interval_index.specs.declared.Run.{Run}
-use Rattle.interval_index.specs.declared.queries.Reaching.{Reaching}
-use Rattle.interval_index.specs.Holders.{holder_of, is_same_holder, is_by, IsBeforeHolder}
-use Rattle.interval_index.specs.Runs.{IsBefore, AreOrdered}
-use Rattle.interval_index.specs.Tests.{begins_after, blocks, conflicts_with, reaches_lock}
-use Rattle.interval_index.specs.Leasts.{IsLeastOf, reaches_by}
+use Rattle.interval_index.specs.Holders.{IsBeforeHolder}
+use Rattle.interval_index.specs.Leasts.{reaches_by}
 use Rattle.interval_index.specs.Standing.{HolderModes, Tells, AreRunsOf, BlocksOn, IsFirstInTheWay}
 use Rattle.interval_index.proofs.HolderLemmas.{another_found, another_holds, by_both, by_itself, by_not_before, not_both_before}
 use Rattle.interval_index.proofs.Blocking.{any_here, any_there, conflict_found, conflict_holds, parts, whole}

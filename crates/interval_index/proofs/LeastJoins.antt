@@ -1,11 +1,7 @@
 -- The least owners of the runs of two lists.
-use Rattle.std.proofs.Common.{◌≡◌, ◌≢◌, ℕ, ◌≤◌, Bool, true, false, cond, ◌||◌, Option, Some, None, List, [], ◌∷◌, ◌++◌, refl, sym, ap, ◌∙◌, arith}
-use Rattle.std.specs.List.{AllByRecursion}
+use Rattle.interval_index.proofs.Common.{◌≡◌, ◌≢◌, ℕ, ◌≤◌, Bool, true, false, cond, ◌||◌, Option, Some, None, List, [], ◌∷◌, ◌++◌, refl, sym, ap, ◌∙◌, arith, AllByRecursion, Holder, Run, is_same_holder, is_by, has_by}
 use Rattle.std.proofs.lemmas.List.Folds.{list_any-append}
-use Rattle.interval_index.specs.declared.Holder.{Holder}
-use Rattle.interval_index.specs.declared.Run.{Run}
 use Rattle.interval_index.specs.declared.least.Least.{Least}
-use Rattle.interval_index.specs.Holders.{is_same_holder, is_by, has_by}
 use Rattle.interval_index.specs.Reaching.{TellsLeast, is_others_by, other_than}
 use Rattle.interval_index.proofs.HolderLemmas.{another_found, by_itself, same_holds}
 use Rattle.interval_index.proofs.Leasts.{absorbed, same_or}

@@ -1,19 +1,11 @@
 -- Facts on the least owners of runs.
-use Rattle.std.proofs.Common.{◌≡◌, ℕ, ◌≤◌, Bool, true, false, not, ◌&&◌, ◌||◌, leb, Option, List, [], ◌∷◌, ◌++◌, refl, sym, ap, ◌∙◌, arith}
-use Rattle.std.specs.List.{list_any, AllByRecursion}
+use Rattle.interval_index.proofs.Common.{◌≡◌, ℕ, ◌≤◌, Bool, true, false, not, ◌&&◌, ◌||◌, leb, Option, List, [], ◌∷◌, ◌++◌, refl, sym, ap, ◌∙◌, arith, list_any, AllByRecursion, Mode, Conflict, Holder, Run, Reaching, holder_of, is_same_holder, is_by, has_by, conflicts_with, reaches_lock, IsLeastOf}
 use Rattle.std.proofs.lemmas.Bool.{le-leb}
 use Rattle.std.proofs.lemmas.List.Folds.{list_any-append}
-use Rattle.range_core.specs.declared.Mode.{Mode}
 use Rattle.range_core.specs.declared.Mode.TheVariants.{Read, Write}
-use Rattle.range_core.specs.Ranges.{Conflict}
-use Rattle.interval_index.specs.declared.Holder.{Holder}
-use Rattle.interval_index.specs.declared.Run.{Run}
 use Rattle.interval_index.specs.declared.least.Least.{Least}
-use Rattle.interval_index.specs.declared.queries.Reaching.{Reaching}
-use Rattle.interval_index.specs.Holders.{holder_of, is_same_holder, is_by, has_by}
-use Rattle.interval_index.specs.Tests.{conflicts_with, reaches_lock}
 use Rattle.interval_index.specs.Reaching.{TellsLeast, is_others_by, other_than}
-use Rattle.interval_index.specs.Leasts.{IsLeastOf, reaches_by}
+use Rattle.interval_index.specs.Leasts.{reaches_by}
 
 -- a test that implies another adds nothing to it
 pub absorbed : (a b : Bool) → (b ≡ true → a ≡ true) → a ≡ (a || b)

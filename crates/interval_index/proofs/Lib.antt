@@ -1,3 +1,4 @@
+mod Common
 pub mod Blocking
 pub mod Crossing
 pub mod HolderLemmas

@@ -1,13 +1,8 @@
 -- Facts on runs in order.
-use Rattle.std.proofs.Common.{◌≡◌, ℕ, ◌<◌, ◌≤◌, ◌⊎◌, Bool, true, false, not, cond, ◌&&◌, ◌||◌, ltb, eqb, leb, Some, None, List, [], ◌∷◌, refl, ap, ◌∙◌, arith}
-use Rattle.std.specs.List.{find, AllByRecursion}
-use Rattle.std.proofs.lemmas.Bool.Decides.{nat_tests}
+use Rattle.interval_index.proofs.Common.{◌≡◌, ℕ, ◌<◌, ◌≤◌, ◌⊎◌, Bool, true, false, not, cond, ◌&&◌, ◌||◌, leb, Some, None, List, [], ◌∷◌, refl, ap, ◌∙◌, arith, find, AllByRecursion, nat_tests, Holder, Run, holder_of, IsBefore, AreOrdered, begins_after, is_from}
+use Rattle.std.proofs.Common.{ltb, eqb}
 use Rattle.summary_tree.specs.Cuts.{IsCutBy, put_before, without_first}
-use Rattle.interval_index.specs.declared.Holder.{Holder}
-use Rattle.interval_index.specs.declared.Run.{Run}
-use Rattle.interval_index.specs.Holders.{holder_of}
-use Rattle.interval_index.specs.Runs.{IsBefore, AreOrdered}
-use Rattle.interval_index.specs.Tests.{begins_after, comes_behind, is_from, has_key, without, with_run}
+use Rattle.interval_index.specs.Tests.{comes_behind, has_key, without, with_run}
 
 -- of keys (f, k, o), (a, l, b) and (c, m, d) in order
 abbrev Before : ℕ → ℕ → ℕ → ℕ → ℕ → ℕ → Type 0

@@ -1,15 +1,8 @@
 -- The runs that block a lock, and the modes of bytes that do.
-use Rattle.std.proofs.Common.{◌≡◌, Some, None, Option, List, sym, ◌∙◌, subst}
-use Rattle.std.specs.List.{Any}
-use Rattle.range_core.specs.declared.Mode.{Mode}
-use Rattle.range_core.specs.declared.Span.{Span}
-use Rattle.range_core.specs.Ranges.{Conflict, HeldConflicts}
-use Rattle.interval_index.specs.declared.Holder.{Holder}
-use Rattle.interval_index.specs.declared.Run.{Run}
-use Rattle.interval_index.specs.Holders.{holder_of}
+use Rattle.interval_index.proofs.Common.{◌≡◌, Some, None, Option, List, sym, ◌∙◌, subst, Any, Mode, Span, Conflict, Holder, Run, holder_of, refl}
+use Rattle.range_core.specs.Ranges.{HeldConflicts}
 use Rattle.interval_index.specs.Runs.{Blocks}
 use Rattle.interval_index.specs.Standing.{HolderModes, Tells, AreRunsOf, HolderConflict}
-use Rattle.std.proofs.Common.{refl}
 
 pub any_like : (P Q : Run → Type 0) (runs : List Run) → ((run : Run) → P run → Q run) → Any P runs → Any Q runs
 any_like P Q runs f a = (a.0, a.1, a.2, a.3, f a.1 a.4)

@@ -1,27 +1,12 @@
 -- Who blocks a lock, read off the lists of owners: for `blocked`, `first_hit` and `process_blocks`.
-use Rattle.std.proofs.Common.{ℕ, ◌≡◌, ◌≢◌, ◌<◌, ◌≤◌, ◌↔◌, ◌∙◌, sym, ap, refl, subst, arith, true, false, Option, Some, None, List, [], ◌∷◌, ◌++◌, All, Any, map}
-use Rattle.std.proofs.lemmas.Grind.{common_steps}
-use Rattle.std.specs.Prelude.{is_some, nat_lt, IsTrue, IfSome, IfNone, MatchOption}
-use Rattle.std.specs.Borrow.{Bor}
-use Rattle.std.specs.Map.Iter.{TakesFirst, deref_pair}
-use Rattle.std.specs.Iterator.{Yields}
-use Rattle.std.specs.Map.{lookup}
-use Rattle.std.specs.declared.cmp.Ordering.TheVariants.{Less}
+use Rattle.lock_book.proofs.Common.{ℕ, ◌≡◌, ◌≢◌, ◌<◌, ◌≤◌, ◌∙◌, sym, ap, refl, subst, arith, true, false, Option, Some, None, List, [], ◌∷◌, ◌++◌, All, Any, map, common_steps, is_some, MatchOption, Bor, TakesFirst, deref_pair, Yields, lookup, Less, All-push, All-weaker, Mode, Span, RangeList, Covers, HeldConflicts, Owner, Process, Book, is_same_owner, IsBefore, ByteModes, Blocks, list_of, byte_modes_of, AreFound, AreRising, modes_in_list, modes_of}
+use Rattle.std.proofs.Common.{◌↔◌}
+use Rattle.std.specs.Prelude.{nat_lt, IsTrue, IfSome, IfNone}
 use Rattle.std.proofs.lemmas.Bool.{ltb-true, ltb-false}
-use Rattle.std.proofs.lemmas.List.Elements.{All-push, All-weaker, All-get_or}
+use Rattle.std.proofs.lemmas.List.Elements.{All-get_or}
 use Rattle.std.proofs.lemmas.List.Quantifiers.{Any-push}
-use Rattle.range_core.specs.declared.Mode.{Mode}
-use Rattle.range_core.specs.declared.Span.{Span}
-use Rattle.range_core.specs.declared.list.RangeList.{RangeList}
-use Rattle.range_core.specs.Ranges.{Covers, HeldConflicts, IsFirstHit}
-use Rattle.lock_book.specs.declared.Owner.{Owner}
-use Rattle.lock_book.specs.declared.Owner.TheVariants.{Process}
-use Rattle.lock_book.specs.declared.book.Book.{Book}
-use Rattle.lock_book.specs.Owners.{is_same_owner, IsBefore}
-use Rattle.lock_book.specs.Conflicts.{ByteModes, Blocks, ByteConflict, ProcessBlocks, IsFirstBlocked}
-use Rattle.lock_book.specs.Books.{list_of, byte_modes_of}
-use Rattle.lock_book.specs.OwnerLists.{AreFound, AreRising, modes_in_list}
-use Rattle.range_core.specs.Changes.{modes_of}
+use Rattle.range_core.specs.Ranges.{IsFirstHit}
+use Rattle.lock_book.specs.Conflicts.{ByteConflict, ProcessBlocks, IsFirstBlocked}
 use Rattle.lock_book.proofs.BookLemmas.{list_of-lookup, byte_modes_of-list}
 use Rattle.lock_book.proofs.ListLemmas.{Any-append_left}
 use Rattle.lock_book.proofs.LoopLemmas.{next_in_loop, earlier_in_loop, later_in_loop, found_in_loop, found_in_part}

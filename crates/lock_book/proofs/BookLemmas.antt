@@ -1,26 +1,12 @@
 -- What a change of one owner's list, or of one description's place, means to the whole book: for each call that sets, reserves or releases.
-use Rattle.std.proofs.lemmas.Grind.{common_steps}
-use Rattle.std.proofs.Common.{ℕ, ◌≡◌, ◌≢◌, ◌==◌, ◌∙◌, sym, ap, refl, subst, true, false, cond, Bool, arith, ◌≤◌, ◌+◌, Option, Some, None, Result, Ok, Err, inl, inr, List}
-use Rattle.std.specs.Prelude.{if◌then◌else◌, ◌||◌, is_some, OnOk, OnErr, OnSome}
-use Rattle.std.specs.Ordering.{nat_cmp}
-use Rattle.std.specs.Option.{option_copied, option_copied_mut}
-use Rattle.std.specs.BTreeMap.{get}
-use Rattle.std.specs.Borrow.{Bor, MutBor}
-use Rattle.std.proofs.lemmas.Bool.Decides.{nat_tests}
-use Rattle.std.proofs.lemmas.Bool.{cases_Bool, eqb-true}
-use Rattle.range_core.specs.declared.Mode.{Mode}
-use Rattle.range_core.specs.declared.Span.{Span}
-use Rattle.range_core.specs.declared.list.RangeList.{RangeList}
-use Rattle.range_core.specs.Changes.{modes_of, room_of, is_covered, SetsMode}
-use Rattle.range_core.specs.Ranges.{Modes, IsByteRange}
-use Rattle.lock_book.specs.declared.Owner.{Owner}
-use Rattle.lock_book.specs.declared.book.Book.{Book}
-use Rattle.lock_book.specs.Owners.{is_same_owner}
-use Rattle.lock_book.specs.Books.{list_of, place_of, byte_modes_of, room_in, flock_modes_of, has_flock_place, SameBook, SameButRoom, SetsOwnerMode, ReleasesOwner, ClearsOwner, SetsFlock, ReservesFlock, ReleasesFlock}
-use Rattle.lock_book.specs.OwnerLists.{modes_in_list, room_in_list, EachList, IsIdle, PutsFor}
+use Rattle.lock_book.proofs.Common.{common_steps, ℕ, ◌≡◌, ◌≢◌, ◌==◌, ◌∙◌, sym, ap, refl, subst, true, false, cond, Bool, arith, ◌≤◌, ◌+◌, Option, Some, None, Result, Ok, Err, inl, inr, List, if◌then◌else◌, is_some, nat_cmp, option_copied, option_copied_mut, get, Bor, nat_tests, cases_Bool, eqb-true, Mode, Span, RangeList, modes_of, is_covered, Modes, IsByteRange, Owner, Book, is_same_owner, list_of, place_of, byte_modes_of, flock_modes_of, modes_in_list, IsIdle, PutsFor, mode_in_place, lookup, set_value}
+use Rattle.std.specs.Prelude.{◌||◌, OnOk, OnErr, OnSome}
+use Rattle.std.specs.Borrow.{MutBor}
+use Rattle.range_core.specs.Changes.{room_of, SetsMode}
+use Rattle.lock_book.specs.Books.{room_in, has_flock_place, SameBook, SameButRoom, SetsOwnerMode, ReleasesOwner, ClearsOwner, SetsFlock, ReservesFlock, ReleasesFlock}
+use Rattle.lock_book.specs.OwnerLists.{room_in_list, EachList}
 use Rattle.lock_book.specs.declared.book.holders.FlockHolders.{FlockHolders}
-use Rattle.lock_book.specs.Holders.{place_among, mode_in_place, PutsAmong}
-use Rattle.std.specs.Map.{lookup, set_value}
+use Rattle.lock_book.specs.Holders.{place_among, PutsAmong}
 use Rattle.lock_book.proofs.OwnerLemmas.{lookup-nat_cmp, same_owner, is_same_owner-self}
 use Rattle.lock_book.proofs.PutLemmas.{PutsFor-set}
 

@@ -1,20 +1,8 @@
 -- Whether a lock is blocked can be decided: by a search of the owners or the places that a book keeps, and of the bytes of a range; for
 -- `conflicts_are_decided`.
-use Rattle.std.proofs.lemmas.Grind.{common_steps}
-use Rattle.std.proofs.Common.{ℕ, ◌≡◌, ◌≢◌, ◌+◌, ◌-◌, ◌<◌, ◌≤◌, ◌⊎◌, inl, inr, subst, refl, arith, zero, suc, true, Bool, List, [], ◌∷◌, Option, Some, None}
+use Rattle.lock_book.proofs.Common.{common_steps, ℕ, ◌≡◌, ◌≢◌, ◌+◌, ◌-◌, ◌<◌, ◌≤◌, ◌⊎◌, inl, inr, subst, refl, arith, zero, suc, true, Bool, List, [], ◌∷◌, Option, Some, None, lookup, cases_Bool, eqb-true, Mode, Span, Covers, HeldConflicts, Owner, Process, Description, Book, is_same_owner, mode_in_place, list_of, place_of, byte_modes_of, flock_modes_of, ByteModes, Blocks}
 use Rattle.std.specs.Prelude.{◌==◌}
-use Rattle.std.specs.Map.{lookup}
-use Rattle.std.proofs.lemmas.Bool.{cases_Bool, cases_eq, eqb-true}
-use Rattle.range_core.specs.declared.Mode.{Mode}
-use Rattle.range_core.specs.declared.Span.{Span}
-use Rattle.range_core.specs.Ranges.{Covers, HeldConflicts}
-use Rattle.lock_book.specs.declared.Owner.{Owner}
-use Rattle.lock_book.specs.declared.Owner.TheVariants.{Process, Description}
-use Rattle.lock_book.specs.declared.book.Book.{Book}
-use Rattle.lock_book.specs.Owners.{is_same_owner}
-use Rattle.lock_book.specs.Holders.{mode_in_place}
-use Rattle.lock_book.specs.Books.{list_of, place_of, byte_modes_of, flock_modes_of}
-use Rattle.lock_book.specs.Conflicts.{ByteModes, Blocks}
+use Rattle.std.proofs.lemmas.Bool.{cases_eq}
 use Rattle.lock_book.specs.Decided.{ByteConflictIsDecided, FlockConflictIsDecided, ProcessBlocksIsDecided}
 use Rattle.lock_book.proofs.BlockLemmas.{list_in}
 use Rattle.lock_book.proofs.OwnerLemmas.{same_owner, is_same_owner-self}

@@ -1,19 +1,9 @@
 -- The flock modes of a book, read off a loop over its places: for the report (`held`).
-use Rattle.std.proofs.Common.{rules, ℕ, ◌≡◌, ◌<◌, ◌==◌, ◌∙◌, sym, ap, subst, Option, Some, None, List, All, map}
-use Rattle.std.specs.Borrow.{Bor}
-use Rattle.std.specs.Iterator.{Yields}
-use Rattle.std.specs.Ordering.{nat_cmp}
-use Rattle.std.specs.BTreeMap.{BTreeMap, IsOrdered, get}
-use Rattle.std.specs.Map.Iter.{TakesFirst, deref_pair}
-use Rattle.std.proofs.lemmas.Bool.{eqb-true}
-use Rattle.range_core.specs.declared.Mode.{Mode}
-use Rattle.lock_book.specs.declared.book.Book.{Book}
-use Rattle.lock_book.specs.Books.{place_of, flock_modes_of}
-use Rattle.lock_book.specs.Holders.{mode_in_place}
+use Rattle.lock_book.proofs.Common.{rules, ℕ, ◌≡◌, ◌<◌, ◌==◌, ◌∙◌, sym, ap, subst, Option, Some, None, List, All, map, Bor, Yields, nat_cmp, BTreeMap, get, TakesFirst, deref_pair, eqb-true, Mode, Book, place_of, flock_modes_of, mode_in_place, All-weaker}
+use Rattle.std.specs.BTreeMap.{IsOrdered}
 use Rattle.lock_book.proofs.BookLemmas.{place_of-get, flock_modes_of-place}
 use Rattle.lock_book.proofs.LoopLemmas.{next_in_loop, earlier_in_loop, found_in_loop}
 use Rattle.lock_book.proofs.OwnerLemmas.{less_from_nat}
-use Rattle.std.proofs.lemmas.List.Elements.{All-weaker}
 
 -- a place of a map of flock locks, as a loop over it gives it
 abbrev pub Place : Type 0

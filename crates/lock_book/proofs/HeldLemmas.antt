@@ -1,24 +1,10 @@
 -- The byte locks of a file, owner by owner and run by run: for the report (`held`).
-use Rattle.std.proofs.Common.{ℕ, ◌≡◌, ◌<◌, ◌∙◌, sym, ap, refl, subst, arith, true, Option, Some, None, List, [], ◌∷◌, ◌++◌, All, Any, map, inl, inr}
-use Rattle.std.specs.List.{AllPairs}
+use Rattle.lock_book.proofs.Common.{ℕ, ◌≡◌, ◌<◌, ◌∙◌, sym, ap, refl, subst, arith, true, Option, Some, None, List, [], ◌∷◌, ◌++◌, All, Any, map, inl, inr, AllPairs, deref_pair, All-push, All-append, All-weaker, Mode, RangeList, modes_of, Covers, IsByteRange, IsRun, Owner, Description, Held, Book, IsBefore, ByteModes, list_of, byte_modes_of, flock_modes_of, modes_in_list}
 use Rattle.std.specs.Prelude.{◌⊎◌, IsFalse}
-use Rattle.std.specs.Map.Iter.{deref_pair}
-use Rattle.std.proofs.lemmas.List.Elements.{All-push, All-append, All-weaker}
 use Rattle.std.proofs.lemmas.List.Quantifiers.{all_pairs_push, Any-push}
-use Rattle.range_core.specs.declared.Mode.{Mode}
-use Rattle.range_core.specs.declared.list.RangeList.{RangeList}
-use Rattle.range_core.specs.Changes.{modes_of}
-use Rattle.range_core.specs.Ranges.{Covers, IsByteRange, IsRun}
-use Rattle.lock_book.specs.declared.Owner.{Owner}
-use Rattle.lock_book.specs.declared.Owner.TheVariants.{Description}
-use Rattle.lock_book.specs.declared.Held.{Held}
-use Rattle.lock_book.specs.declared.book.Book.{Book}
-use Rattle.lock_book.specs.Owners.{IsBefore}
 use Rattle.lock_book.specs.Changes.{whole_file}
-use Rattle.lock_book.specs.Conflicts.{ByteModes, FlockModes}
+use Rattle.lock_book.specs.Conflicts.{FlockModes}
 use Rattle.lock_book.specs.Reports.{AreByteLocks, AreFlockLocks, AddsOwnerLocks, IsFlockLine}
-use Rattle.lock_book.specs.Books.{list_of, byte_modes_of, flock_modes_of}
-use Rattle.lock_book.specs.OwnerLists.{modes_in_list}
 use Rattle.lock_book.proofs.BlockLemmas.{Item, owner_in}
 use Rattle.lock_book.proofs.OwnerLemmas.{IsBefore-same}
 use Rattle.lock_book.proofs.FlockLemmas.{Place, flock_in}

@@ -1,29 +1,22 @@
 -- What the counts of locks by mode say of the places that they count: for `FlockHolders::blocked`, `FlockHolders::blocked_by_others`,
 -- `FlockHolders::is_empty` and others.
-use Rattle.std.proofs.lemmas.Grind.{common_steps}
-use Rattle.std.proofs.Common.{ℕ, ◌≡◌, ◌≢◌, ◌+◌, ◌^◌, ◌<◌, ◌≤◌, ◌↔◌, ◌∙◌, sym, ap, refl, subst, arith, true, false, Option, Some, None, [], ◌∷◌, All, Any, length, inl, inr}
+use Rattle.lock_book.proofs.Common.{common_steps, ℕ, ◌≡◌, ◌≢◌, ◌+◌, ◌<◌, ◌≤◌, ◌∙◌, sym, ap, refl, subst, arith, true, false, Option, Some, None, [], ◌∷◌, All, Any, length, inl, inr, AllByRecursion, IsStrictlySortedBy, keys_of, lookup, BTreeMap, get, is_at, option_map, nat_cmp, Less, cases_Bool, cases_lt, eqb-true, eq-eqb, All-nil, All-cons, All-head, All-tail, Mode, Read, Write, HeldConflicts, Description, mode_in_place}
+use Rattle.std.proofs.Common.{◌^◌, ◌↔◌}
 use Rattle.std.specs.Prelude.{◌⊎◌, unwrap_or}
-use Rattle.std.specs.List.{AllByRecursion}
-use Rattle.std.specs.List.Sorted.{IsStrictlySortedBy}
-use Rattle.std.specs.Map.{keys_of, values_of, lookup, remove_entry}
-use Rattle.std.specs.BTreeMap.{BTreeMap, UpdatesBy, WritesThrough, get, is_at, insert_entry}
-use Rattle.std.specs.Option.{IsSome, option_map}
-use Rattle.std.specs.Ordering.{nat_cmp, is_eq}
+use Rattle.std.specs.Map.{values_of, remove_entry}
+use Rattle.std.specs.BTreeMap.{UpdatesBy, WritesThrough, insert_entry}
+use Rattle.std.specs.Option.{IsSome}
+use Rattle.std.specs.Ordering.{is_eq}
 use Rattle.std.specs.Cmp.{nat_cmp_total, eq_by_cmp_equiv}
-use Rattle.std.specs.declared.cmp.Ordering.TheVariants.{Less}
-use Rattle.std.proofs.lemmas.Bool.{cases_Bool, cases_lt, eqb-true, eq-eqb, ne_eqb}
-use Rattle.std.proofs.lemmas.List.Elements.{All-nil, All-cons, All-head, All-tail}
+use Rattle.std.proofs.lemmas.Bool.{ne_eqb}
 use Rattle.std.proofs.lemmas.List.Sums.{sum_by-cons, sum_by-le}
 use Rattle.std.proofs.lemmas.Option.{slice_get-get_or}
 use Rattle.std.proofs.lemmas.Map.{lookup-remove_entry}
 use Rattle.std.proofs.lemmas.Map.Entries.{length-values_of, lookup_from_place, sum_by-insert_entry, sum_by-remove_entry, sum_by-set_value}
 use Rattle.std.proofs.lemmas.Map.Keys.{IsDistinct-from_sorted, sorted_head, sorted_tail}
-use Rattle.range_core.specs.declared.Mode.{Mode}
-use Rattle.range_core.specs.declared.Mode.TheVariants.{Read, Write}
-use Rattle.range_core.specs.Ranges.{Conflict, HeldConflicts}
-use Rattle.lock_book.specs.declared.Owner.TheVariants.{Description}
+use Rattle.range_core.specs.Ranges.{Conflict}
 use Rattle.lock_book.specs.Conflicts.{FlockConflict}
-use Rattle.lock_book.specs.Holders.{Places, place_among, mode_in_place, flock_modes_among, locks_in, locks_among, conflicting, PutsAmong}
+use Rattle.lock_book.specs.Holders.{Places, place_among, flock_modes_among, locks_in, locks_among, conflicting, PutsAmong}
 use Rattle.lock_book.specs.declared.book.holders.FlockLock.{FlockLock}
 use Rattle.lock_book.specs.declared.book.holders.LockCount.{LockCount}
 use Rattle.lock_book.proofs.ListLemmas.{Any-append_right, All-at_Any}

@@ -1,21 +1,12 @@
 -- What takes and puts leave of the runs that an index keeps: for `take_runs`, `put_runs` and others.
-use Rattle.std.proofs.Common.{◌≡◌, ◌==◌, ℕ, ◌<◌, ◌+◌, inl, inr, Bool, true, false, not, ◌&&◌, ◌||◌, cond, List, [], ◌∷◌, All, length, get_or, take, refl, sym, ap, ◌∙◌, subst, arith}
-use Rattle.std.specs.List.{list_any}
-use Rattle.std.proofs.lemmas.Bool.{cases_Bool, and_from, and_parts, or_left, or_right, or_cases, not-true, not_from_false}
-use Rattle.std.proofs.lemmas.Bool.Decides.{nat_tests}
-use Rattle.std.proofs.lemmas.List.Elements.{All-cons, All-head, All-tail, All-weaker, All-filter, filter_passes}
+use Rattle.lock_book.proofs.Common.{◌≡◌, ◌==◌, ℕ, ◌<◌, ◌+◌, inl, inr, Bool, true, false, not, ◌&&◌, ◌||◌, cond, List, [], ◌∷◌, All, length, get_or, take, refl, sym, ap, ◌∙◌, subst, arith, list_any, cases_Bool, not-true, nat_tests, All-cons, All-head, All-tail, All-weaker, Mode, Span, IsRun, Holder, Run, holder_of, HolderModes, AreRunsWhere, is_listed}
+use Rattle.std.proofs.lemmas.Bool.{and_from, and_parts, or_left, or_right, or_cases, not_from_false}
+use Rattle.std.proofs.lemmas.List.Elements.{All-filter, filter_passes}
 use Rattle.std.proofs.lemmas.List.Folds.{list_any_more}
 use Rattle.std.proofs.lemmas.Map.Views.{any-filter_same}
-use Rattle.range_core.specs.declared.Mode.{Mode}
-use Rattle.range_core.specs.declared.Span.{Span}
-use Rattle.range_core.specs.Ranges.{IsRun}
 use Rattle.summary_tree.specs.Cuts.{put_before}
-use Rattle.interval_index.specs.declared.Holder.{Holder}
-use Rattle.interval_index.specs.declared.Run.{Run}
-use Rattle.interval_index.specs.Holders.{holder_of}
-use Rattle.interval_index.specs.Standing.{HolderModes}
 use Rattle.interval_index.specs.Tests.{has_key, is_from, without, with_run}
-use Rattle.lock_book.specs.Indexing.{AreRunsWhere, IsRunOf, is_listed}
+use Rattle.lock_book.specs.Indexing.{IsRunOf}
 
 -- of keys (f, k, o), (a, l, b) and (c, m, d)
 abbrev is_key : ℕ → ℕ → ℕ → ℕ → ℕ → ℕ → Bool

@@ -1,35 +1,16 @@
 -- What an index of all owners' runs tells of the locks of a file, and what stays of it when these change: for `Book::set`, `Book::blocked` and others.
-use Rattle.std.proofs.Common.{◌≡◌, ◌≢◌, ℕ, ◌⊎◌, inl, inr, Bool, true, false, not, ◌&&◌, ◌||◌, ◌==◌, Option, Some, None, List, [], ◌∷◌, ◌++◌, All, Any, get_or, length, map, refl, sym, ap, ◌∙◌, subst, arith, Box, Global, Result, Ok, Err}
-use Rattle.std.specs.Prelude.{IfNone, IfOk, IfSome, IsSomeAnd, MatchOption}
+use Rattle.lock_book.proofs.Common.{◌≡◌, ◌≢◌, ℕ, ◌⊎◌, inl, inr, Bool, true, false, not, ◌&&◌, ◌||◌, ◌==◌, Option, Some, None, List, [], ◌∷◌, ◌++◌, All, Any, get_or, length, map, refl, sym, ap, ◌∙◌, subst, arith, Box, Global, Result, Ok, Err, MatchOption, Bor, list_any, lookup, cases_Bool, cond-false, eq-eqb, eqb-true, not-true, nat_tests, All-nil, All-weaker, Mode, Span, RangeList, Modes, AreRuns, Covers, HeldConflicts, IsRun, modes_of, ListsStandForRuns, Holder, Run, holder_of, HolderConflict, HolderModes, Owner, Process, Description, is_same_owner, IsBefore, AreFound, modes_in_list, Blocks, ByteModes, AreRunsWhere, as_holder, holder_modes, is_listed, is_outside, modes_among, touches, Yields, TakesFirst, deref_pair}
+use Rattle.std.specs.Prelude.{IfNone, IfOk, IfSome, IsSomeAnd}
 use Rattle.std.specs.Result.{result_ok}
-use Rattle.std.specs.Borrow.{Bor}
-use Rattle.std.specs.List.{list_any}
-use Rattle.std.specs.Map.{lookup}
-use Rattle.std.proofs.lemmas.Bool.{cases_Bool, cond-false, eq-eqb, eqb-true, and_from, and_left, and_parts, not-true, not_from_false, or_left, or_right, false_from_ne_true}
-use Rattle.std.proofs.lemmas.Bool.Decides.{nat_tests}
+use Rattle.std.proofs.lemmas.Bool.{and_from, and_left, and_parts, not_from_false, or_left, or_right, false_from_ne_true}
 use Rattle.std.proofs.lemmas.List.Folds.{Any-from_list_any, list_any-append, list_any-from_Any, list_any_at}
-use Rattle.std.proofs.lemmas.List.Elements.{All-nil, All-weaker}
-use Rattle.range_core.specs.declared.Mode.{Mode}
-use Rattle.range_core.specs.declared.Span.{Span}
-use Rattle.range_core.specs.declared.list.RangeList.{RangeList}
-use Rattle.range_core.specs.Ranges.{Modes, AreRuns, Covers, HeldConflicts, IsRun}
-use Rattle.range_core.specs.Changes.{modes_of}
-use Rattle.range_core.specs.SomeRuns.{ListsStandForRuns}
-use Rattle.interval_index.specs.declared.Holder.{Holder}
-use Rattle.interval_index.specs.declared.Run.{Run}
 use Rattle.interval_index.specs.Contents.{RunContents}
-use Rattle.interval_index.specs.Holders.{holder_of, is_same_holder, IsBeforeHolder}
-use Rattle.interval_index.specs.Standing.{AreRunsOf, BlocksOn, HolderConflict, HolderModes, IsFirstInTheWay, Tells}
+use Rattle.interval_index.specs.Holders.{is_same_holder, IsBeforeHolder}
+use Rattle.interval_index.specs.Standing.{AreRunsOf, BlocksOn, IsFirstInTheWay, Tells}
 use Rattle.interval_index.specs.Tests.{has_key}
-use Rattle.lock_book.specs.declared.Owner.{Owner}
-use Rattle.lock_book.specs.declared.Owner.TheVariants.{Process, Description}
-use Rattle.lock_book.specs.Owners.{is_same_owner, IsBefore}
-use Rattle.lock_book.specs.OwnerLists.{AreFound, modes_in_list}
-use Rattle.lock_book.specs.Conflicts.{Blocks, ByteConflict, ByteModes, IsFirstBlocked}
+use Rattle.lock_book.specs.Conflicts.{ByteConflict, IsFirstBlocked}
 use Rattle.lock_book.specs.declared.book.index.OwnersIndex.{OwnersIndex}
-use Rattle.lock_book.specs.Indexing.{AreIndexed, AreRunsWhere, IsRunOf, as_holder, holder_modes, is_listed, is_others, is_outside, modes_among, touches}
-use Rattle.std.specs.Iterator.{Yields}
-use Rattle.std.specs.Map.Iter.{TakesFirst, deref_pair}
+use Rattle.lock_book.specs.Indexing.{AreIndexed, IsRunOf, is_others}
 use Rattle.lock_book.proofs.BlockLemmas.{Item}
 use Rattle.lock_book.proofs.LoopLemmas.{found_in_loop, next_in_loop}
 use Rattle.lock_book.proofs.OwnerLemmas.{same_owner}

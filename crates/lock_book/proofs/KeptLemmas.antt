@@ -1,25 +1,11 @@
 -- What keeps each owner's list in use, and its runs indexed: for `Book::set`, `Book::clear_owner`, `Book::reserve` and others.
-use Rattle.std.proofs.Common.{Bool, ℕ, ◌⊎◌, inl, inr, ◌≡◌, ◌≢◌, ◌∙◌, sym, ap, refl, subst, cond, true, false, Option, Some, None, List, Result, Ok, Err, arith}
-use Rattle.std.specs.Prelude.{OnOk, OnErr, is_some}
-use Rattle.std.specs.Borrow.{Bor}
-use Rattle.std.specs.Option.{option_copied}
-use Rattle.std.specs.Map.{lookup}
-use Rattle.std.proofs.lemmas.Bool.{cases_Bool, cond-false, false_from_ne_true}
-use Rattle.std.proofs.lemmas.Bool.Decides.{nat_tests}
-use Rattle.range_core.specs.declared.Mode.{Mode}
-use Rattle.range_core.specs.declared.Span.{Span}
-use Rattle.range_core.specs.declared.list.RangeList.{RangeList}
-use Rattle.range_core.specs.Ranges.{Covers}
-use Rattle.range_core.specs.Changes.{is_covered, modes_of, SetsMode}
-use Rattle.interval_index.specs.declared.Run.{Run}
-use Rattle.lock_book.specs.declared.Owner.{Owner}
-use Rattle.lock_book.specs.declared.book.Book.{Book}
+use Rattle.lock_book.proofs.Common.{Bool, ℕ, ◌⊎◌, inl, inr, ◌≡◌, ◌≢◌, ◌∙◌, sym, ap, refl, subst, cond, true, false, Option, Some, None, List, Result, Ok, Err, arith, is_some, Bor, option_copied, lookup, cases_Bool, cond-false, nat_tests, Mode, Span, RangeList, Covers, is_covered, modes_of, Run, Owner, Book, is_same_owner, list_of, modes_in_list, IsIdle, PutsFor, ByteModes, as_holder, is_outside, modes_among}
+use Rattle.std.specs.Prelude.{OnOk, OnErr}
+use Rattle.std.proofs.lemmas.Bool.{false_from_ne_true}
+use Rattle.range_core.specs.Changes.{SetsMode}
 use Rattle.lock_book.specs.declared.book.index.OwnersIndex.{OwnersIndex}
-use Rattle.lock_book.specs.Owners.{is_same_owner}
-use Rattle.lock_book.specs.Books.{list_of}
-use Rattle.lock_book.specs.OwnerLists.{modes_in_list, AreInUse, IsIdle, PutsFor}
-use Rattle.lock_book.specs.Conflicts.{ByteModes}
-use Rattle.lock_book.specs.Indexing.{AreIndexed, IsKeptWhere, as_holder, is_outside, IsKeptAs, IsKeptOutside, IsKeptWithout, modes_among}
+use Rattle.lock_book.specs.OwnerLists.{AreInUse}
+use Rattle.lock_book.specs.Indexing.{AreIndexed, IsKeptWhere, IsKeptAs, IsKeptOutside, IsKeptWithout}
 use Rattle.lock_book.proofs.OwnerLemmas.{is_same_owner-self, same_owner}
 use Rattle.lock_book.proofs.BookLemmas.{PutsAt, PutsAt-adds, different_owner, EachList-list, EachList-removed, EachList-left, EachList-insert}
 use Rattle.lock_book.proofs.IndexedLemmas.{AreRunsWhere-cleared, AreRunsWhere-outside, AreRunsWhere-same, AreRunsWhere-set}

@@ -1,15 +1,7 @@
 -- Largest ranges of one mode, by bytes: for the index of all owners.
-use Rattle.std.proofs.Common.{◌≡◌, ◌≢◌, ℕ, ◌+◌, ◌-◌, ◌<◌, ◌≤◌, ◌⊎◌, inl, inr, zero, suc, false, Option, Some, None, List, [], ◌∷◌, refl, sym, ap, ◌∙◌, subst, arith}
-use Rattle.std.proofs.lemmas.Bool.{cases_lt, cond-false}
-use Rattle.std.proofs.lemmas.Bool.Decides.{nat_tests}
-use Rattle.range_core.specs.declared.Mode.{Mode}
-use Rattle.range_core.specs.declared.Mode.TheVariants.{Read, Write}
-use Rattle.range_core.specs.declared.Span.{Span}
-use Rattle.range_core.specs.declared.list.RangeList.{RangeList}
-use Rattle.range_core.specs.Ranges.{Modes, Covers, IsConstant, IsRun}
-use Rattle.range_core.specs.Changes.{is_covered, mode_in, modes_of}
-use Rattle.range_core.specs.SomeRuns.{ListsStandForRuns}
-use Rattle.lock_book.specs.Indexing.{touches}
+use Rattle.lock_book.proofs.Common.{◌≡◌, ◌≢◌, ℕ, ◌+◌, ◌-◌, ◌<◌, ◌≤◌, ◌⊎◌, inl, inr, zero, suc, false, Option, Some, None, List, [], ◌∷◌, refl, sym, ap, ◌∙◌, subst, arith, cases_lt, cond-false, nat_tests, Mode, Read, Write, Span, RangeList, Modes, Covers, IsRun, is_covered, modes_of, ListsStandForRuns, touches}
+use Rattle.range_core.specs.Ranges.{IsConstant}
+use Rattle.range_core.specs.Changes.{mode_in}
 
 -- modes that are the same have the same largest ranges
 pub IsRun-same : (old new : Modes) → ((byte : ℕ) → new byte ≡ old byte) → (byte : ℕ) (mode : Mode) (span : Span) → IsRun old byte mode span → IsRun new byte mode span

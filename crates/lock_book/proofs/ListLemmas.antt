@@ -1,8 +1,6 @@
 -- Some and all elements of lists that are put together: for `push_runs`.
-use Rattle.std.proofs.lemmas.Grind.{common_steps}
-use Rattle.std.proofs.Common.{◌≡◌, ◌+◌, ◌∙◌, ap, subst, arith, append_assoc, List, [], ◌∷◌, ◌++◌, All, Any, length}
-use Rattle.std.specs.List.{AllPairs}
-use Rattle.std.proofs.lemmas.Bool.{cases_lt}
+use Rattle.lock_book.proofs.Common.{common_steps, ◌≡◌, ◌+◌, ◌∙◌, ap, subst, arith, List, [], ◌∷◌, ◌++◌, All, Any, length, AllPairs, cases_lt}
+use Rattle.std.proofs.Common.{append_assoc}
 use Rattle.std.proofs.lemmas.List.{get_or_append_left, get_or-append-add, length-append}
 use Rattle.std.proofs.Math.Seq.{get_or-append_right}
 

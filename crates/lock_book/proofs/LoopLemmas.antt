@@ -1,14 +1,7 @@
 -- What a loop over a map gives, in order, of any keys and values: for `held` and `first_blocker`.
-use Rattle.std.proofs.Common.{◌≡◌, ◌∙◌, sym, ap, subst, Bool, true, Option, Some, List, [], ◌∷◌, ◌++◌, All, length, map, ◌<◌, arith}
-use Rattle.std.specs.List.{AllByRecursion}
-use Rattle.std.specs.List.Sorted.{IsStrictlySortedBy}
-use Rattle.std.specs.Iterator.{Yields}
-use Rattle.std.specs.Borrow.{Bor}
-use Rattle.std.specs.Map.{keys_of, lookup}
-use Rattle.std.specs.Map.Iter.{TakesFirst, deref_pair}
+use Rattle.lock_book.proofs.Common.{◌≡◌, ◌∙◌, sym, ap, subst, Bool, true, Option, Some, List, [], ◌∷◌, ◌++◌, All, length, map, ◌<◌, arith, AllByRecursion, IsStrictlySortedBy, Yields, Bor, keys_of, lookup, TakesFirst, deref_pair, Less, All-nil, All-cons, All-append}
 use Rattle.std.specs.declared.cmp.Ordering.{Ordering}
-use Rattle.std.specs.declared.cmp.Ordering.TheVariants.{Less}
-use Rattle.std.proofs.lemmas.List.Elements.{All-nil, All-cons, All-append, All-get_or, All-map}
+use Rattle.std.proofs.lemmas.List.Elements.{All-get_or, All-map}
 use Rattle.std.proofs.lemmas.Map.Entries.{place_from_lookup}
 use Rattle.std.proofs.lemmas.Option.{get_or_from_slice_get, slice_get_within}
 use Rattle.std.proofs.lemmas.List.{append_assoc, length-append, map-append}

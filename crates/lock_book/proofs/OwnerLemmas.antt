@@ -1,19 +1,8 @@
 -- The order and the equality that are derived on owners are those of the definition: for `Book::blocked`,
 -- `Book::first_hit` and `Book::process_blocks`.
-use Rattle.std.proofs.Common.{ℕ, suc, ◌≡◌, ◌≢◌, ◌<◌, ◌==◌, ◌∙◌, sym, subst, refl, arith, Bool, true, false, List, [], ◌∷◌, All}
-use Rattle.std.specs.Ordering.{is_eq, nat_cmp}
-use Rattle.std.specs.BTreeMap.{is_at}
-use Rattle.std.specs.List.{AllByRecursion, AllPairs}
-use Rattle.std.specs.List.Sorted.{IsStrictlySortedBy}
-use Rattle.std.specs.Map.{keys_of, lookup}
-use Rattle.std.proofs.lemmas.List.Elements.{All-head, All-tail}
+use Rattle.lock_book.proofs.Common.{ℕ, suc, ◌≡◌, ◌≢◌, ◌<◌, ◌==◌, ◌∙◌, sym, subst, refl, arith, Bool, true, false, List, [], ◌∷◌, All, nat_cmp, is_at, AllByRecursion, AllPairs, IsStrictlySortedBy, keys_of, lookup, All-head, All-tail, Less, common_steps, nat_tests, Owner, Process, Description, is_same_owner, IsBefore}
+use Rattle.std.specs.Ordering.{is_eq}
 use Rattle.std.specs.declared.cmp.Ordering.{Ordering}
-use Rattle.std.specs.declared.cmp.Ordering.TheVariants.{Less}
-use Rattle.std.proofs.lemmas.Grind.{common_steps}
-use Rattle.std.proofs.lemmas.Bool.Decides.{nat_tests}
-use Rattle.lock_book.specs.declared.Owner.{Owner}
-use Rattle.lock_book.specs.declared.Owner.TheVariants.{Process, Description}
-use Rattle.lock_book.specs.Owners.{is_same_owner, IsBefore}
 use Rattle.lock_book.specs.contracts.OwnerOrd.TheImpl as order
 use Rattle.lock_book.specs.contracts.OwnerPartialEq.TheImpl as equality
 

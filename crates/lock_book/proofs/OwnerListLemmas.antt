@@ -1,34 +1,21 @@
 -- The lists of owners, in blocks of a map: for `OwnerLists`.
-use Rattle.std.proofs.Common.{suc, ◌≡◌, ◌∙◌, sym, ap, refl, subst, arith, cond, Bool, true, false, Option, Some, None, List, [], ◌∷◌, length, Box, Global}
-use Rattle.std.proofs.lemmas.Grind.{common_steps}
-use Rattle.std.specs.Prelude.{IsSomeAnd, MatchOption}
-use Rattle.std.specs.Borrow.{Bor, MutBor}
-use Rattle.std.specs.Option.{option_copied, option_copied_mut, option_map}
-use Rattle.std.specs.Map.{lookup, set_value}
-use Rattle.std.specs.Box.{with_value}
-use Rattle.std.specs.BTreeMap.{BTreeMap, IsOrdered, WritesThrough, get, is_at}
+use Rattle.lock_book.proofs.Common.{suc, ◌≡◌, ◌∙◌, sym, ap, refl, subst, arith, cond, Bool, true, false, Option, Some, None, List, [], ◌∷◌, length, Box, Global, common_steps, MatchOption, Bor, option_copied, option_copied_mut, option_map, lookup, set_value, with_value, BTreeMap, get, is_at, cases_Bool, nat_tests, All-cons, All-nil, keys_of, IsStrictlySortedBy, get_or, RangeList, Owner, IsBefore, is_same_owner, AreFound, AreRising, pair_of, unboxed}
+use Rattle.std.specs.Prelude.{IsSomeAnd}
+use Rattle.std.specs.Borrow.{MutBor}
+use Rattle.std.specs.BTreeMap.{IsOrdered, WritesThrough}
 use Rattle.std.specs.BTreeMap.Range.{entries_between, range_contains}
 use Rattle.std.specs.declared.ops.Bound.{Bound}
 use Rattle.std.specs.declared.ops.Bound.TheVariants.{Unbounded}
 use Rattle.std.specs.List.{filter}
-use Rattle.std.proofs.lemmas.Bool.{cases_Bool}
-use Rattle.std.proofs.lemmas.Bool.Decides.{nat_tests}
-use Rattle.std.proofs.lemmas.List.Elements.{All-cons, All-nil}
 use Rattle.std.proofs.lemmas.Map.Made.{keys_of-map_values, lookup-map_values}
 use Rattle.std.proofs.lemmas.Map.Keys.{Less-from_sorted}
 use Rattle.std.proofs.lemmas.Map.Entries.{length-keys_of, lookup-filter-keys}
 use Rattle.std.proofs.lemmas.List.{get_or-map, nil_from_length}
-use Rattle.std.specs.Map.{keys_of}
-use Rattle.std.specs.List.Sorted.{IsStrictlySortedBy}
-use Rattle.std.proofs.Common.{get_or}
-use Rattle.range_core.specs.declared.list.RangeList.{RangeList}
-use Rattle.lock_book.specs.declared.Owner.{Owner}
-use Rattle.lock_book.specs.Owners.{IsBefore, is_from, is_same_owner}
-use Rattle.lock_book.specs.OwnerLists.{AreFound, AreRising}
+use Rattle.lock_book.specs.Owners.{is_from}
 use Rattle.std.specs.Bool.{then_some}
 use Rattle.lock_book.specs.declared.book.lists.OwnedList.{OwnedList}
 use Rattle.lock_book.specs.declared.book.lists.Left.TheVariants as left
-use Rattle.lock_book.specs.Kept.{lists_left, pair_of, unboxed}
+use Rattle.lock_book.specs.Kept.{lists_left}
 use Rattle.lock_book.proofs.OwnerLemmas.{IsBefore-from_less, is_same_owner-self, owner_cmp, is_eq-nat_cmp, is_eq-owner_cmp, lookup-owner_cmp, same_owner}
 
 -- a map of lists in blocks

@@ -1,19 +1,9 @@
 -- What a look-up finds once an owner's list is put, set or gone: for `OwnerLists`, and for the calls that change one owner's list.
-use Rattle.std.proofs.Common.{◌≡◌, ◌∙◌, sym, ap, refl, subst, arith, cond, Bool, true, false, Option, Some, List, [], ◌∷◌, inl, inr, Box, Global}
-use Rattle.std.proofs.lemmas.Grind.{common_steps}
+use Rattle.lock_book.proofs.Common.{◌≡◌, ◌∙◌, sym, ap, refl, subst, arith, cond, Bool, true, false, Option, Some, List, [], ◌∷◌, inl, inr, Box, Global, common_steps, option_map, lookup, set_value, get, cases_Bool, nat_tests, RangeList, Owner, is_same_owner, PutsFor, unboxed}
 use Rattle.std.specs.Prelude.{IsSome}
 use Rattle.std.specs.Cmp.{IsEquivalence}
-use Rattle.std.specs.Option.{option_map}
-use Rattle.std.specs.Map.{lookup, set_value}
-use Rattle.std.specs.BTreeMap.{UpdatesBy, get}
-use Rattle.std.proofs.lemmas.Bool.{cases_Bool}
-use Rattle.std.proofs.lemmas.Bool.Decides.{nat_tests}
+use Rattle.std.specs.BTreeMap.{UpdatesBy}
 use Rattle.std.proofs.lemmas.Map.{lookup-set_value}
-use Rattle.range_core.specs.declared.list.RangeList.{RangeList}
-use Rattle.lock_book.specs.declared.Owner.{Owner}
-use Rattle.lock_book.specs.Owners.{is_same_owner}
-use Rattle.lock_book.specs.OwnerLists.{PutsFor}
-use Rattle.lock_book.specs.Kept.{unboxed}
 use Rattle.lock_book.proofs.OwnerListLemmas.{Blocks, lookup-unboxed}
 use Rattle.lock_book.proofs.OwnerLemmas.{is_eq-owner_cmp, is_same_owner-self, owner_cmp, same_owner}
 

@@ -1,16 +1,9 @@
 -- The report is determined by the locks: for `locks_have_one_file_report` and `locks_have_one_report`.
-use Rattle.std.proofs.lemmas.Grind.{common_steps}
-use Rattle.std.proofs.Common.{ℕ, ◌≡◌, ◌≤◌, ◌∙◌, sym, ap, refl, subst, arith, zero, suc, Bool, List, [], ◌∷◌, ◌++◌, All, inl, inr}
-use Rattle.std.specs.List.{AllPairs, Contains}
+use Rattle.lock_book.proofs.Common.{common_steps, ℕ, ◌≡◌, ◌≤◌, ◌∙◌, sym, ap, refl, subst, arith, zero, suc, Bool, List, [], ◌∷◌, ◌++◌, All, inl, inr, AllPairs, Mode, Span, Modes, Covers, IsRun, Owner, Held, IsBefore, ByteModes}
+use Rattle.std.specs.List.{Contains}
 use Rattle.std.specs.Prelude.{◌⊎◌, ◌+◌}
 use Rattle.std.proofs.lemmas.List.Elements.{All-contains, Contains-get_or, Contains-append_right, Contains-append_cases, Contains-push_cases}
-use Rattle.range_core.specs.declared.Mode.{Mode}
-use Rattle.range_core.specs.declared.Span.{Span}
-use Rattle.range_core.specs.Ranges.{Modes, Covers, IsRun}
-use Rattle.lock_book.specs.declared.Owner.{Owner}
-use Rattle.lock_book.specs.declared.Held.{Held}
-use Rattle.lock_book.specs.Owners.{IsBefore}
-use Rattle.lock_book.specs.Conflicts.{ByteModes, FlockModes}
+use Rattle.lock_book.specs.Conflicts.{FlockModes}
 use Rattle.lock_book.specs.Reports.{AreByteLocks, AreFlockLocks, AreFileReports, IsHeldReport}
 use Rattle.lock_book.specs.OneReport.{LocksHaveOneFileReport, LocksHaveOneReport}
 use Rattle.lock_book.proofs.OwnerLemmas.{IsBefore-asymmetric, IsBefore-same}

@@ -1,17 +1,9 @@
 -- What the runs of a list say of it, and the lines that tell them: for `Book::has_no_byte_lock`, `is_idle` and `push_runs`.
-use Rattle.std.proofs.Common.{ℕ, ◌≡◌, ◌<◌, ◌==◌, ◌∙◌, sym, ap, refl, arith, Bool, false, Option, Some, None, List, [], ◌∷◌, All, length, map}
+use Rattle.lock_book.proofs.Common.{ℕ, ◌≡◌, ◌<◌, ◌==◌, ◌∙◌, sym, ap, refl, arith, Bool, false, Option, Some, None, List, [], ◌∷◌, All, length, map, eqb-true, Mode, Span, RangeList, modes_of, Modes, IsByteRange, IsRun, AreRuns, Owner, Held, IsIdle}
 use Rattle.std.specs.Prelude.{◌↔◌, IsTrue}
-use Rattle.std.proofs.lemmas.Bool.{eqb-true}
 use Rattle.std.proofs.lemmas.List.{get_or-map, length-map}
 use Rattle.std.proofs.lemmas.List.Elements.{All-map}
-use Rattle.range_core.specs.declared.Mode.{Mode}
-use Rattle.range_core.specs.declared.Span.{Span}
-use Rattle.range_core.specs.declared.list.RangeList.{RangeList}
-use Rattle.range_core.specs.Changes.{modes_of, room_of}
-use Rattle.range_core.specs.Ranges.{Modes, IsByteRange, IsRun, AreRuns}
-use Rattle.lock_book.specs.declared.Owner.{Owner}
-use Rattle.lock_book.specs.declared.Held.{Held}
-use Rattle.lock_book.specs.OwnerLists.{IsIdle}
+use Rattle.range_core.specs.Changes.{room_of}
 use Rattle.lock_book.specs.Reports.{AreOwnerLocks}
 
 none_of : (held : Option Mode) → ((mode : Mode) → held ≡ Some mode → ⊥) → held ≡ None

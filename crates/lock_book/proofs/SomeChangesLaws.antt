@@ -1,20 +1,9 @@
 -- The locks of a book are those that some changes leave, so no clause that speaks of those is empty: for `books_stand_for_some`.
-use Rattle.std.proofs.lemmas.Grind.{common_steps}
-use Rattle.std.proofs.Common.{arith, ◌≡◌, ℕ, ◌==◌, ◌&&◌, Bool, true, false, refl, Option, Some, None, List, [], ◌∷◌, ◌++◌, not, All, filter}
-use Rattle.std.specs.Prelude.{if◌then◌else◌}
-use Rattle.std.specs.Map.{lookup}
-use Rattle.std.proofs.lemmas.Bool.Decides.{nat_tests}
-use Rattle.std.proofs.lemmas.List.Elements.{All-nil, All-cons, All-append, All-filter}
-use Rattle.range_core.specs.declared.Mode.{Mode}
-use Rattle.range_core.specs.declared.Span.{Span}
-use Rattle.range_core.specs.declared.list.RangeList.{RangeList}
+use Rattle.lock_book.proofs.Common.{common_steps, arith, ◌≡◌, ℕ, ◌==◌, ◌&&◌, Bool, true, false, refl, Option, Some, None, List, [], ◌∷◌, ◌++◌, not, All, if◌then◌else◌, lookup, nat_tests, All-nil, All-cons, All-append, Mode, Span, RangeList, ListsStandForRuns, Owner, is_same_owner, modes_in_list, byte_modes_of, flock_modes_of, list_of, place_of}
+use Rattle.std.proofs.Common.{filter}
+use Rattle.std.proofs.lemmas.List.Elements.{All-filter}
 use Rattle.range_core.specs.Changes.{mode_in as mode_in_runs}
-use Rattle.range_core.specs.SomeRuns.{ListsStandForRuns}
-use Rattle.lock_book.specs.declared.Owner.{Owner}
-use Rattle.lock_book.specs.Owners.{is_same_owner}
-use Rattle.lock_book.specs.OwnerLists.{modes_in_list}
 use Rattle.lock_book.specs.Holders.{Places, flock_modes_among}
-use Rattle.lock_book.specs.Books.{byte_modes_of, flock_modes_of, list_of, place_of}
 use Rattle.lock_book.specs.Changes.{Change, FlockChange, sets_byte, mode_from, mode_in, flock_mode_from, flock_mode_in}
 use Rattle.lock_book.specs.SomeChanges.{BooksStandForSome}
 use Rattle.lock_book.proofs.OwnerLemmas.{same_owner, is_same_owner-self}

@@ -1,16 +1,10 @@
 -- Which runs of a list touch a range: for `touched` and `touching`.
-use Rattle.std.proofs.Common.{◌≡◌, ℕ, ◌==◌, ◌+◌, ◌-◌, ◌<◌, ◌≤◌, inl, inr, true, Some, List, All, length, get_or, sym, ap, ◌∙◌, subst, arith}
-use Rattle.std.specs.List.{AllPairs, AllWithin, list_any, between}
+use Rattle.lock_book.proofs.Common.{◌≡◌, ℕ, ◌==◌, ◌+◌, ◌-◌, ◌<◌, ◌≤◌, inl, inr, true, Some, List, All, length, get_or, sym, ap, ◌∙◌, subst, arith, AllPairs, list_any, cases_lt, eq-eqb, nat_tests, Mode, Read, Span, Modes, AreRuns, IsByteRange, IsRun, touches}
+use Rattle.std.specs.List.{AllWithin, between}
 use Rattle.std.specs.List.Sorted.{IsNonDecreasingBy}
-use Rattle.std.proofs.lemmas.Bool.{cases_lt, eq-eqb}
-use Rattle.std.proofs.lemmas.Bool.Decides.{nat_tests}
 use Rattle.std.proofs.lemmas.List.Edits.{get_or-between, length-between}
 use Rattle.std.proofs.lemmas.List.Folds.{list_any_at}
-use Rattle.range_core.specs.declared.Mode.{Mode}
-use Rattle.range_core.specs.declared.Mode.TheVariants.{Read}
-use Rattle.range_core.specs.declared.Span.{Span}
-use Rattle.range_core.specs.Ranges.{Modes, AreRuns, IsByteRange, IsRun}
-use Rattle.lock_book.specs.Indexing.{AreTouched, touches}
+use Rattle.lock_book.specs.Indexing.{AreTouched}
 use Rattle.lock_book.proofs.LargestLemmas.{same_run}
 
 touches_by : (span run : Span) → run.first ≤ span.last + 1 → span.first ≤ run.last + 1 → touches span run ≡ true

@@ -1,23 +1,7 @@
 -- What holds of each case of a choice holds of the choice. Which predicates it holds of is the relation R: that at most one value meets them, or that
 -- some value does; for `step_has_one_outcome`.
-use Rattle.std.proofs.Common.{◌≡◌, ℕ, ◌||◌, Bool, true, false, Option, Some, None, Result, Ok, Err, MatchBool, MatchOption, MatchResult}
-use Rattle.range_core.specs.Resolving.{resolution}
-use Rattle.range_core.specs.declared.Mode.{Mode}
-use Rattle.range_core.specs.declared.Mode.TheVariants.{Read, Write}
-use Rattle.lock_book.specs.Changes.{flock_mode_in}
-use Rattle.fd_table.specs.declared.tables.Look.{Look}
-use Rattle.fd_table.specs.Descriptors.{look_at}
-use Rattle.wait_core.specs.declared.Wait.{Wait}
-use Rattle.lock_manager.specs.declared.request.Rules.{Rules}
-use Rattle.lock_manager.specs.declared.request.Lock.{Lock}
-use Rattle.lock_manager.specs.declared.request.LkCmd.{LkCmd}
-use Rattle.lock_manager.specs.declared.request.FlockOp.{FlockOp}
+use Rattle.lock_manager.proofs.Common.{◌≡◌, ℕ, ◌||◌, Bool, true, false, Option, Some, None, Result, Ok, Err, MatchBool, MatchOption, MatchResult, resolution, Mode, Read, Write, flock_mode_in, Look, look_at, Wait, Rules, Lock, LkCmd, FlockOp, State, Outcome, is_get, is_bad_argument, wanted_mode, permits, wanted_lock, CommandComesTo, LockComesTo, FlockModeComesTo, FlockOpComesTo, FlockComesTo, wanted_flock}
 use Rattle.lock_manager.specs.declared.request.FlockOp.TheVariants.{Sh, Ex, Un}
-use Rattle.lock_manager.specs.State.{State}
-use Rattle.lock_manager.specs.Outcomes.{Outcome}
-use Rattle.lock_manager.specs.LockWords.{is_get, is_bad_argument, wanted_mode, permits, wanted_lock}
-use Rattle.lock_manager.specs.LockCommands.{CommandComesTo, LockComesTo}
-use Rattle.lock_manager.specs.FlockCalls.{FlockModeComesTo, FlockOpComesTo, FlockComesTo, wanted_flock}
 
 pub MatchBool-by : {A : Type 0} (R : (A → Type 0) → Type 0) (b : Bool) (P Q : A → Type 0) → R P → R Q → R (λ x. MatchBool b (P x) (Q x))
 MatchBool-by R true P Q p q = p

@@ -1,3 +1,4 @@
+mod Common
 pub mod ChoiceLemmas
 pub mod Crossing
 pub mod SectionLemmas

@@ -1,23 +1,15 @@
 -- Words of sections with one bit more or less, and answers behind others: for `Seat::with`, `Sections::hear` and others.
-use Rattle.std.proofs.Common.{arith, ◌≡◌, ℕ, zero, suc, ◌*◌, ◌%◌, ◌^◌, ◌<◌, ◌+◌, ◌==◌, ◌&&◌, ◌||◌, not, nat_le, if◌then◌else◌, Bool, true, false, None, length, get_or, set, take, replicate, List, [], ◌∷◌, ◌++◌, refl, sym, ap, ◌∙◌, inl, inr, w64}
+use Rattle.lock_manager.proofs.Common.{arith, ◌≡◌, ℕ, zero, suc, ◌<◌, ◌+◌, ◌==◌, ◌&&◌, ◌||◌, not, nat_le, if◌then◌else◌, Bool, true, false, None, length, get_or, take, List, [], ◌∷◌, ◌++◌, refl, sym, ap, ◌∙◌, inl, inr, w64, common_steps, cases_lt, cases_Bool, eqb_tells, nat_tests, Note, Answer, ProcState, Unborn, state_numbered, Seat, Sections, no_seat, seat_in}
+use Rattle.std.proofs.Common.{◌*◌, ◌%◌, ◌^◌, set, replicate}
 use Rattle.std.specs.Prelude.{bit_and, bit_or}
 use Rattle.std.specs.Int.{bit_at, bit_not}
-use Rattle.std.proofs.lemmas.Grind.{common_steps}
-use Rattle.std.proofs.lemmas.Bool.{cases_eq, cases_lt, cases_Bool, eq-eqb}
+use Rattle.std.proofs.lemmas.Bool.{cases_eq, eq-eqb}
 use Rattle.std.proofs.lemmas.Option.{slice_get_past, slice_get-get_or}
 use Rattle.std.proofs.Math.Seq.{take-suc}
-use Rattle.std.proofs.lemmas.Bool.Decides.{eqb_tells, nat_tests}
 use Rattle.std.proofs.lemmas.List.{get_or-replicate, get_or-set_same, get_or-set_other, get_or_past, length-replicate}
 use Rattle.std.proofs.lemmas.Nat.Bits.{bit_at-zero, bit_at_set_same, bit_at_set_other, bit_at_clear_same, bit_at_clear_other}
-use Rattle.lock_manager.specs.declared.request.Note.{Note}
-use Rattle.lock_manager.specs.declared.request.Note.TheVariants.{Answer, Waits}
-use Rattle.lock_manager.specs.declared.request.ProcState.{ProcState}
-use Rattle.lock_manager.specs.declared.request.ProcState.TheVariants.{Unborn}
-use Rattle.lock_manager.specs.State.{state_numbered}
-use Rattle.lock_manager.specs.declared.seat.Seat.{Seat}
-use Rattle.lock_manager.specs.declared.sections.Sections.{Sections}
-use Rattle.lock_manager.specs.SeatView.{has_section, visit_of, no_seat}
-use Rattle.lock_manager.specs.SectionsView.{seat_in}
+use Rattle.lock_manager.specs.declared.request.Note.TheVariants.{Waits}
+use Rattle.lock_manager.specs.SeatView.{has_section, visit_of}
 use Rattle.lock_manager.specs.Sections.{last_refused}
 
 -- after one more bit is set

@@ -1,28 +1,10 @@
 -- Who was blocked stays so where a lock only adds to what its owner has: for `LockFile::leaves_blocked` and `LockFile::grant`.
-use Rattle.std.proofs.Common.{arith, ℕ, ◌≡◌, ◌≢◌, inl, inr, ap, sym, subst, refl, ◌∙◌, Bool, true, false, Option, Some, None, List, [], ◌∷◌, ◌++◌, All, take}
-use Rattle.std.proofs.lemmas.Grind.{common_steps}
-use Rattle.std.specs.Prelude.{◌==◌, ◌&&◌, if◌then◌else◌, slice_get}
-use Rattle.std.proofs.lemmas.Bool.{eqb-true}
-use Rattle.std.proofs.lemmas.List.Elements.{All-head, All-tail}
+use Rattle.lock_server.proofs.Common.{arith, ℕ, ◌≡◌, ◌≢◌, inl, inr, ap, sym, subst, refl, ◌∙◌, Bool, true, false, Option, Some, None, List, [], ◌∷◌, ◌++◌, All, take, common_steps, ◌&&◌, if◌then◌else◌, slice_get, eqb-true, All-head, All-tail}
+use Rattle.lock_server.proofs.Common.{Mode, Read, Write, HeldConflicts, is_covered, Owner, Process, Description, Family, Bytes, Whole, Policy, Held, Queue, IsBlockedIn, Pending, HasByteLock, HasFlockLock, FileState, SetsLock, GetsLock, by_owner, locks_on, as_wait, AllBlocked, HasIn, IsWaitBlocked, IsReadyAt, LeavesAt}
+use Rattle.std.specs.Prelude.{◌==◌}
 use Rattle.std.proofs.Math.Seq.{take-append_seam}
-use Rattle.range_core.specs.declared.Mode.{Mode}
-use Rattle.range_core.specs.declared.Mode.TheVariants.{Read, Write}
-use Rattle.range_core.specs.Ranges.{HeldConflicts}
-use Rattle.range_core.specs.Changes.{is_covered}
-use Rattle.lock_book.specs.declared.Owner.{Owner}
-use Rattle.lock_book.specs.declared.Owner.TheVariants.{Process, Description}
-use Rattle.wait_core.specs.declared.Family.{Family}
-use Rattle.wait_core.specs.declared.Family.TheVariants.{Bytes, Whole}
-use Rattle.wait_core.specs.declared.Policy.{Policy}
-use Rattle.wait_core.specs.declared.Policy.TheVariants.{Held, Queue}
-use Rattle.wait_core.specs.Blocking.{IsBlockedIn}
 use Rattle.lock_server.specs.Adding.{IsAtMost, AddsIn, LeavesBlocked, OnlyAdds}
-use Rattle.lock_server.specs.declared.Pending.{Pending}
-use Rattle.lock_server.specs.Clients.{HasByteLock, HasFlockLock}
-use Rattle.lock_server.specs.Files.{FileState, SetsLock, GetsLock, by_owner, locks_on}
-use Rattle.lock_server.specs.Pendings.{as_wait}
-use Rattle.lock_server.specs.Settling.{AllBlocked, HasIn, IsWaitBlocked}
-use Rattle.lock_server.specs.Waiting.{AreBlockedTo, IsReadyAt, LeavesAt}
+use Rattle.lock_server.specs.Waiting.{AreBlockedTo}
 use Rattle.lock_server.proofs.CompatibleLemmas.{hit}
 use Rattle.lock_server.proofs.GrantLemmas.{same_parts}
 

@@ -1,18 +1,6 @@
 -- Servers that are told the same calls: for `replicas_agree` and `servers_are_safe`.
-use Rattle.std.proofs.Common.{ℕ, ◌≡◌, ◌∙◌, sym, ap, subst, refl, Some, None, List, [], ◌∷◌}
-use Rattle.std.proofs.Math.Logic.{∥∥₁_map}
-use Rattle.wait_core.specs.declared.Family.TheVariants.{Bytes, Whole}
-use Rattle.lock_server.specs.declared.Rules.{Rules}
-use Rattle.lock_server.specs.declared.WaitAnswer.{WaitAnswer}
-use Rattle.lock_server.specs.declared.server.LockServer.{LockServer}
-use Rattle.lock_server.specs.Agreement.{Call, Get, Set, Wait, Cancel, Note, Flush, Forget, Flock, FlockWait, FlockRelease, Release, NextGrant, ForgetOwners, ForgetFile, HasLocks, CountsOf, CallComesTo, Reply, TellsAnswer, TellsCounts, TellsEnded, TellsGrant, TellsHaving, TellsLock, TellsWait, Runs, SameServer, Tells, Through, WithTicket}
-use Rattle.lock_server.specs.Calls.{WaitComesTo, FlockWaitComesTo, byte_request, flock_request}
-use Rattle.lock_server.specs.Clients.{is_within}
-use Rattle.lock_server.specs.Openings.{SameOpenings}
-use Rattle.lock_server.specs.Safety.{AreTicketsOnce}
-use Rattle.lock_server.specs.ServerView.{rules_of, state_of, through_of}
-use Rattle.lock_server.specs.Settling.{IsSettled}
-use Rattle.lock_server.specs.States.{Crosses, SameState, State}
+use Rattle.lock_server.proofs.Common.{ℕ, ◌≡◌, ◌∙◌, sym, ap, subst, refl, Some, None, List, [], ◌∷◌, ∥∥₁_map, Bytes, Whole, Rules, WaitAnswer, LockServer, Through, WaitComesTo, FlockWaitComesTo, byte_request, flock_request, is_within, SameOpenings, AreTicketsOnce, rules_of, state_of, through_of, IsSettled, Crosses, SameState, State}
+use Rattle.lock_server.specs.Agreement.{Call, Get, Set, Wait, Cancel, Note, Flush, Forget, Flock, FlockWait, FlockRelease, Release, NextGrant, ForgetOwners, ForgetFile, HasLocks, CountsOf, CallComesTo, Reply, TellsAnswer, TellsCounts, TellsEnded, TellsGrant, TellsHaving, TellsLock, TellsWait, Runs, SameServer, Tells, WithTicket}
 use Rattle.lock_server.proofs.CallLaws.{cancel_one, closes_one, forgets_one, forgets_owner_one, forgets_through_one, get_one, same_openings_one, sees_one}
 use Rattle.lock_server.proofs.ClientLaws.{counts_one, file_forgotten_one, forgets_seen_on_one, forgets_seen_one, owners_forgotten_one}
 use Rattle.lock_server.proofs.GrantedMoves.{crosses_itself}

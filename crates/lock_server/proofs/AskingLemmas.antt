@@ -1,26 +1,11 @@
 -- What is asked of waits, as tests: for the queries of `asking`.
-use Rattle.std.proofs.Common.{◌≡◌, ◌≢◌, ℕ, ◌∙◌, Bool, true, false, not, ◌||◌, ◌&&◌, ◌==◌, List, [], ◌∷◌, ◌++◌, refl, sym, ap, subst, arith}
-use Rattle.std.specs.Prelude.{◌↔◌, IsTrue}
-use Rattle.std.specs.List.{list_any}
-use Rattle.std.proofs.lemmas.Bool.{eq-eqb, eqb-true}
-use Rattle.std.proofs.lemmas.Bool.Decides.{nat_tests}
-use Rattle.range_core.specs.declared.Mode.{Mode}
-use Rattle.range_core.specs.declared.Mode.TheVariants.{Read, Write}
-use Rattle.range_core.specs.declared.Span.{Span}
-use Rattle.range_core.specs.Ranges.{Conflict}
-use Rattle.lock_book.specs.declared.Owner.TheVariants.{Description}
+use Rattle.lock_server.proofs.Common.{◌≡◌, ◌≢◌, ℕ, ◌∙◌, Bool, true, false, not, ◌==◌, List, [], ◌∷◌, ◌++◌, refl, sym, ap, subst, arith, ◌↔◌, IsTrue, list_any, eq-eqb, eqb-true, nat_tests, Mode, Read, Write, Span, Conflict, Description, Family, Bytes, Whole, Pending, Freed, Nobody, Of, Meeting, Reach, are_conflicting, is_among, reaches, IsAmong, Reaches, PendingsConflict}
+use Rattle.std.proofs.Common.{◌||◌, ◌&&◌}
 use Rattle.wait_core.specs.Blocking.{Meet}
-use Rattle.wait_core.specs.declared.Family.{Family}
-use Rattle.wait_core.specs.declared.Family.TheVariants.{Bytes, Whole}
-use Rattle.lock_server.specs.declared.Pending.{Pending}
-use Rattle.lock_server.specs.declared.freed.Freed.{Freed}
-use Rattle.lock_server.specs.declared.freed.Freed.TheVariants.{Nobody, Of, Meeting, Anybody}
-use Rattle.lock_server.specs.declared.freed.Reach.{Reach}
+use Rattle.lock_server.specs.declared.freed.Freed.TheVariants.{Anybody}
 use Rattle.lock_server.specs.declared.hull.Hull.{Hull}
-use Rattle.lock_server.specs.Asking.{are_conflicting, do_meet, exclude, is_among, is_same_family, reaches}
-use Rattle.lock_server.specs.Freed.{IsAmong, Reaches}
+use Rattle.lock_server.specs.Asking.{do_meet, exclude, is_same_family}
 use Rattle.lock_server.specs.Hulls.{AreWithin, Holds, IsWithin, LiesIn}
-use Rattle.lock_server.specs.Settling.{PendingsConflict}
 
 fails : (b : Bool) → (b ≡ true → ⊥) → b ≡ false
 fails true never = absurd (never refl)

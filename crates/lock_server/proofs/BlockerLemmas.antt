@@ -1,34 +1,11 @@
 -- The owners for which a wait on a file waits: for `add_steps`, `add_blockers`, `add_holders` and what that calls, `add_conflicting`.
-use Rattle.std.proofs.Common.{ℕ, ◌≡◌, ◌≢◌, ◌+◌, ◌<◌, ◌≤◌, ◌∙◌, ◌⊎◌, inl, inr, min, max, sym, ap, refl, subst, arith, suc, true, false, Option, Some, None, List, [], ◌∷◌, ◌++◌, Any, Contains, length, take, drop, map}
-use Rattle.std.specs.Prelude.{◌↔◌, IfNone, IfSome, IsTrue, is_some, slice_get}
-use Rattle.std.specs.Borrow.{Bor}
-use Rattle.std.specs.Map.{keys_of}
-use Rattle.std.specs.Map.Iter.{deref_pair}
-use Rattle.std.proofs.lemmas.Bool.{cases_eq, cases_lt}
-use Rattle.std.proofs.lemmas.List.{take_at, get_or_at, length-append, map-append}
-use Rattle.std.proofs.lemmas.List.Elements.{Contains-append_left, Contains-push, Contains-push_cases}
-use Rattle.std.proofs.lemmas.Option.{slice_get-get_or, slice_get_within, get_or_from_slice_get}
-use Rattle.range_core.specs.declared.Mode.{Mode}
-use Rattle.range_core.specs.declared.Span.{Span}
-use Rattle.range_core.specs.declared.list.RangeList.{RangeList}
-use Rattle.range_core.specs.Ranges.{Conflict, Covers, HeldConflicts, IsByteRange, IsFirstHit, Modes}
-use Rattle.lock_book.specs.declared.Owner.{Owner}
-use Rattle.lock_book.specs.declared.Owner.TheVariants.{Description}
-use Rattle.wait_core.specs.Blocking.{WaitsConflict}
-use Rattle.wait_core.specs.declared.Family.{Family}
-use Rattle.wait_core.specs.declared.Family.TheVariants.{Bytes, Whole}
-use Rattle.wait_core.specs.declared.Policy.{Policy}
-use Rattle.lock_server.specs.declared.FlockLock.{FlockLock}
-use Rattle.lock_server.specs.declared.Lock.{Lock}
-use Rattle.lock_server.specs.declared.Pending.{Pending}
-use Rattle.lock_server.specs.declared.file.LockFile.{LockFile}
-use Rattle.lock_server.specs.Blockers.{AddsOwners, BlocksBefore, BlocksOn, IsFlockHolder}
-use Rattle.lock_server.specs.Deadlock.{BlocksByBytes, BlocksByFlock, BlocksIn, IsBlockedByOwner, WaitsForOn}
-use Rattle.lock_server.specs.Files.{FileState}
-use Rattle.lock_server.specs.FileView.{file_state}
-use Rattle.lock_server.specs.Listing.{EndsBefore, IsFirstFrom, IsFlockLock, flock_place}
+use Rattle.lock_server.proofs.Common.{ℕ, ◌≡◌, ◌≢◌, ◌+◌, ◌<◌, ◌≤◌, ◌∙◌, ◌⊎◌, inl, inr, sym, ap, refl, subst, arith, suc, true, false, Option, Some, None, List, [], ◌∷◌, ◌++◌, Any, Contains, length, take, drop, map, ◌↔◌, IfNone, IfSome, IsTrue, is_some, slice_get, Bor, keys_of, deref_pair, cases_eq, cases_lt, take_at, length-append, map-append, Contains-append_left, Contains-push, Contains-push_cases, slice_get-get_or, slice_get_within, get_or_from_slice_get}
+use Rattle.lock_server.proofs.Common.{Mode, Span, RangeList, Conflict, Covers, HeldConflicts, IsByteRange, Modes, Owner, Description, WaitsConflict, Family, Bytes, Whole, Policy, FlockLock, Lock, Pending, LockFile, AddsOwners, BlocksBefore, BlocksOn, IsFlockHolder, BlocksIn, IsBlockedByOwner, WaitsForOn, FileState, file_state, EndsBefore, IsFirstFrom, IsFlockLock, flock_place, as_wait}
+use Rattle.std.proofs.Common.{min, max}
+use Rattle.std.proofs.lemmas.List.{get_or_at}
+use Rattle.range_core.specs.Ranges.{IsFirstHit}
+use Rattle.lock_server.specs.Deadlock.{BlocksByBytes, BlocksByFlock}
 use Rattle.lock_server.specs.Locks.{IsFirstLock, IsInTheWay}
-use Rattle.lock_server.specs.Pendings.{as_wait}
 use Rattle.lock_server.proofs.ExportLemmas.{HaveModes, description_same, list_there}
 use Rattle.lock_server.proofs.GatheredOwnerLemmas.{AddsOwners-as, AddsOwners-both, AddsOwners-push, AddsOwners-same, Any-from_place, Any-place, IsGivenBefore, gathered_all}
 use Rattle.lock_server.proofs.LeaveLemmas.{split_at}

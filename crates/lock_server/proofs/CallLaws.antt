@@ -1,32 +1,17 @@
 -- What a whole call comes to is determined, and so what a run of calls does: for `replicas_agree`.
-use Rattle.std.proofs.Common.{arith, zero, suc, ℕ, ◌≡◌, ◌≢◌, ◌+◌, ◌<◌, ◌≤◌, ◌∙◌, inl, inr, sym, ap, subst, refl, true, false, Bool, Option, Some, None, List, [], ◌∷◌, ◌++◌, Any, AllPairs, Contains, append-nil, length, length-append, get_or}
-use Rattle.std.proofs.lemmas.Grind.{common_steps}
-use Rattle.std.proofs.lemmas.Bool.{cases_eq, cases_lt, cases_order, eqb-true}
-use Rattle.std.proofs.lemmas.List.Elements.{Contains-append_cases}
-use Rattle.std.proofs.lemmas.Option.{same_Some}
-use Rattle.std.proofs.Math.Logic.{∥∥₁_elim}
-use mathlib.Core.HLevel.{⊥_prop}
-use Rattle.std.specs.Prelude.{◌==◌, if◌then◌else◌}
-use Rattle.range_core.specs.declared.Mode.{Mode}
-use Rattle.range_core.specs.declared.Span.{Span}
-use Rattle.range_core.specs.Ranges.{Modes, IsRun}
+use Rattle.lock_server.proofs.Common.{arith, zero, suc, ℕ, ◌≡◌, ◌≢◌, ◌+◌, ◌<◌, ◌≤◌, ◌∙◌, inl, inr, sym, ap, subst, refl, true, false, Bool, Option, Some, None, List, [], ◌∷◌, ◌++◌, Any, Contains, append-nil, length, get_or, common_steps, cases_eq, cases_lt, eqb-true, Contains-append_cases, same_Some, ∥∥₁_elim, ⊥_prop, if◌then◌else◌}
+use Rattle.lock_server.proofs.Common.{Mode, Span, Modes, IsRun, Owner, Process, Description, ByteModes, Policy, Lock, Pending, Through, ForgetsOn, IsStrangerOn, is_other_wait, FileState, by_owner, SameOpenings, SeesOn, owners_of, tickets_of, AreTicketsOnce, IsSettled, Settles, Crosses, SettlesFile, State}
+use Rattle.std.proofs.Common.{AllPairs, length-append}
+use Rattle.std.proofs.lemmas.Bool.{cases_order}
+use Rattle.std.specs.Prelude.{◌==◌}
 use Rattle.lock_book.specs.declared.Blocker.{Blocker}
-use Rattle.lock_book.specs.declared.Owner.{Owner}
-use Rattle.lock_book.specs.declared.Owner.TheVariants.{Process, Description}
-use Rattle.lock_book.specs.Conflicts.{ByteModes, IsFirstBlocked, IsFirstBlocker}
-use Rattle.wait_core.specs.declared.Policy.{Policy}
-use Rattle.lock_server.specs.declared.Lock.{Lock}
-use Rattle.lock_server.specs.declared.Pending.{Pending}
-use Rattle.lock_server.specs.Agreement.{GetComesTo, Through}
-use Rattle.lock_server.specs.Calls.{CancelComesTo, Cancels, Forgets, ForgetsIn, ForgetsOn, IsStrangerOn, LeavesOn, is_other_wait}
+use Rattle.lock_book.specs.Conflicts.{IsFirstBlocked, IsFirstBlocker}
+use Rattle.lock_server.specs.Agreement.{GetComesTo}
+use Rattle.lock_server.specs.Calls.{CancelComesTo, Cancels, Forgets, ForgetsIn, LeavesOn}
 use Rattle.lock_server.specs.Closing.{Closes}
-use Rattle.lock_server.specs.Files.{FileState, by_owner}
 use Rattle.lock_server.specs.Locks.{as_blocker}
-use Rattle.lock_server.specs.Openings.{ForgetsOwner, ForgetsThrough, SameOpenings, SeesOn}
-use Rattle.lock_server.specs.Pendings.{owners_of, tickets_of}
-use Rattle.lock_server.specs.Safety.{AreTicketsOnce}
-use Rattle.lock_server.specs.Settling.{IsSettled, Settles}
-use Rattle.lock_server.specs.States.{Crosses, SettlesFile, State, WaitsOn}
+use Rattle.lock_server.specs.Openings.{ForgetsOwner, ForgetsThrough}
+use Rattle.lock_server.specs.States.{WaitsOn}
 use Rattle.lock_server.proofs.CrossLemmas.{contains_none, contains_other}
 use Rattle.lock_server.proofs.ForgetLemmas.{filter_all}
 use Rattle.lock_server.proofs.LeaveLemmas.{Any-at}

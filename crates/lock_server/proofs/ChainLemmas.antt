@@ -1,7 +1,6 @@
 -- Chains of steps between owners, of any kind: what keeps them free of cycles; for `Table::add_going_on`, `Table::add_steps`, `LockServer::cancel`
 -- and others.
-use Rattle.std.proofs.Common.{ℕ, ◌≡◌, ◌⊎◌, inl, inr, sym, subst, refl, List, [], ◌∷◌, ◌++◌}
-use Rattle.wait_core.specs.Cycles.{IsChain}
+use Rattle.lock_server.proofs.Common.{ℕ, ◌≡◌, ◌⊎◌, inl, inr, sym, subst, refl, List, [], ◌∷◌, ◌++◌, IsChain}
 
 -- two chains, one behind the other
 pub chain_append : (R : ℕ → ℕ → Type 0) (p : ℕ) (through : List ℕ) (q : ℕ) (more : List ℕ) (r : ℕ) → IsChain R p through q → IsChain R q more r

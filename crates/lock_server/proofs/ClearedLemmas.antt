@@ -1,10 +1,6 @@
 -- What owners from a first number to a last one have goes, owner by owner: for `LockFile::strip_bytes` and `LockFile::strip_flocks`.
-use Rattle.std.proofs.Common.{ℕ, ◌≡◌, ◌≢◌, ◌+◌, ◌<◌, ◌≤◌, ◌∙◌, inl, inr, sym, ap, refl, arith, true, false, Bool, Option, None}
-use Rattle.std.proofs.lemmas.Grind.{common_steps}
-use Rattle.std.specs.Prelude.{◌==◌, ◌&&◌, if◌then◌else◌, nat_le, nat_lt}
-use Rattle.std.proofs.lemmas.Bool.{cases_Bool, cases_eq, cases_lt, eq-eqb, ne_eqb}
-use Rattle.std.proofs.lemmas.Bool.Decides.{nat_tests}
-use Rattle.lock_server.specs.Clients.{is_within}
+use Rattle.lock_server.proofs.Common.{ℕ, ◌≡◌, ◌≢◌, ◌+◌, ◌<◌, ◌≤◌, ◌∙◌, inl, inr, sym, ap, refl, arith, true, false, Bool, Option, None, common_steps, ◌&&◌, if◌then◌else◌, cases_Bool, cases_eq, cases_lt, eq-eqb, ne_eqb, nat_tests, is_within}
+use Rattle.std.specs.Prelude.{◌==◌, nat_le, nat_lt}
 
 -- whether the owner is one from first to last, and below this number
 abbrev pub is_passed : ℕ → ℕ → ℕ → ℕ → Bool

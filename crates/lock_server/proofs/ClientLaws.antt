@@ -1,15 +1,8 @@
 -- What the calls for clients and files that are gone come to is determined, and what those tell that ask: for `replicas_agree`.
-use Rattle.std.proofs.Common.{ℕ, zero, suc, ◌≡◌, ◌+◌, ◌-◌, ◌≤◌, ◌∙◌, add-suc, add-zero, inl, inr, sym, ap, subst, arith, Bool, List, []}
-use Rattle.std.proofs.lemmas.Bool.{cases_eq, cases_lt}
-use Rattle.wait_core.specs.declared.Policy.{Policy}
+use Rattle.lock_server.proofs.Common.{ℕ, zero, suc, ◌≡◌, ◌+◌, ◌-◌, ◌≤◌, ◌∙◌, add-suc, add-zero, inl, inr, sym, ap, subst, arith, Bool, List, [], cases_eq, cases_lt, Policy, Through, ForgetsFile, ForgetsOwners, SettlesBelow, Strips, is_within, flock_locks_on, runs_on, told, waits_on, FileState, SameFile, untouched, SameOpenings, IsSettled, Crosses, SameState, State}
 use Rattle.lock_server.specs.declared.Counts.{Counts}
-use Rattle.lock_server.specs.Agreement.{Through}
-use Rattle.lock_server.specs.Clients.{ForgetsFile, ForgetsOwners, ForgetsSeen, ForgetsSeenOn, SettlesAll, SettlesBelow, Strips, is_within}
-use Rattle.lock_server.specs.Counting.{AreCounts, IsTold, flock_locks_on, runs_on, told, waits_on}
-use Rattle.lock_server.specs.Files.{FileState, SameFile, untouched}
-use Rattle.lock_server.specs.Openings.{SameOpenings}
-use Rattle.lock_server.specs.Settling.{IsSettled}
-use Rattle.lock_server.specs.States.{Crosses, SameState, State}
+use Rattle.lock_server.specs.Clients.{ForgetsSeen, ForgetsSeenOn, SettlesAll}
+use Rattle.lock_server.specs.Counting.{AreCounts, IsTold}
 use Rattle.lock_server.proofs.ClientLemmas.{settled_again, stripped_one}
 use Rattle.lock_server.proofs.CountLemmas.{sum_one}
 use Rattle.lock_server.proofs.CrossLemmas.{contains_none}

@@ -1,25 +1,11 @@
 -- Clients and files that are gone, on one file and then on all: for `Table::strip`, `Table::strip_all`, `Table::settle_all`,
 -- `Table::forget_owners` and `Table::forget_file`.
-use Rattle.std.proofs.Common.{rules, ℕ, zero, suc, ◌≡◌, ◌≢◌, ◌+◌, ◌-◌, ◌<◌, ◌≤◌, ◌∙◌, add-one, add-zero, add-suc, inl, inr, sym, ap, refl, subst, arith, cond, true, false, not, Bool, Option, Some, None, List, [], ◌∷◌, All, Any, append-nil}
-use Rattle.std.specs.Prelude.{if◌then◌else◌, IsTrue, filter}
-use Rattle.std.proofs.lemmas.Bool.{cases_eq, cases_lt}
-use Rattle.std.proofs.lemmas.List.Elements.{All-head}
-use Rattle.range_core.specs.declared.Mode.{Mode}
-use Rattle.wait_core.specs.declared.Policy.{Policy}
-use Rattle.lock_server.specs.declared.Pending.{Pending}
-use Rattle.lock_server.specs.declared.file.LockFile.{LockFile}
-use Rattle.lock_server.specs.declared.files.Files.{Files}
+use Rattle.lock_server.proofs.Common.{rules, ℕ, zero, suc, ◌≡◌, ◌≢◌, ◌+◌, ◌-◌, ◌<◌, ◌≤◌, ◌∙◌, add-zero, add-suc, inl, inr, sym, ap, refl, subst, arith, cond, true, false, not, Bool, Option, Some, None, List, [], ◌∷◌, All, Any, append-nil, if◌then◌else◌, IsTrue, filter, cases_eq, cases_lt, All-head}
+use Rattle.lock_server.proofs.Common.{Mode, Policy, Pending, LockFile, Files, Tickets, Waiters, ForgetsFile, SettlesBelow, Strips, StripsFile, FileState, SameFile, untouched, file_state, state_at, PutsEntry, entry_in, IsIndexed, is_leaving, IsSettled, ChangesFile, Crosses, HasDetected, IsDetectedOf, SameState, SettlesFile, State}
+use Rattle.std.proofs.Common.{add-one}
 use Rattle.lock_server.specs.declared.leaving.Leaving.TheVariants.{All as all_leave}
-use Rattle.lock_server.specs.declared.tickets.Tickets.{Tickets}
-use Rattle.lock_server.specs.declared.waiters.Waiters.{Waiters}
-use Rattle.lock_server.specs.Clients.{ForgetsFile, SettlesAll, SettlesBelow, Strips, StripsFile, StripsLocks, StripsOn}
-use Rattle.lock_server.specs.Files.{FileState, SameFile, untouched}
-use Rattle.lock_server.specs.FileView.{file_state, state_at}
-use Rattle.lock_server.specs.FilesView.{PutsEntry, entry_in}
-use Rattle.lock_server.specs.Index.{IsIndexed}
-use Rattle.lock_server.specs.Leaving.{is_leaving, is_staying}
-use Rattle.lock_server.specs.Settling.{IsSettled}
-use Rattle.lock_server.specs.States.{ChangesFile, Crosses, HasDetected, IsDetectedOf, SameState, SettlesFile, State}
+use Rattle.lock_server.specs.Clients.{SettlesAll, StripsLocks, StripsOn}
+use Rattle.lock_server.specs.Leaving.{is_staying}
 use Rattle.lock_server.specs.TableView.{AllLeave, StripsLocksOn}
 use Rattle.lock_server.proofs.CrossLemmas.{CrossesBy-same}
 use Rattle.lock_server.proofs.EntryMoves.{SameWaiters-itself, kept_indexed}

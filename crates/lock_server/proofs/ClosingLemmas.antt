@@ -1,14 +1,8 @@
 -- A last close, owner by owner: for `close` and the server's `release`.
-use Rattle.std.proofs.Common.{rules, ℕ, ◌≡◌, ◌≢◌, ◌+◌, ◌<◌, ◌≤◌, ◌∙◌, inl, inr, sym, ap, refl, subst, arith, Bool, true, false, Option, Some, None, []}
-use Rattle.std.proofs.lemmas.Grind.{common_steps}
-use Rattle.std.specs.Prelude.{◌==◌, ◌&&◌, ◌||◌, if◌then◌else◌}
-use Rattle.std.proofs.lemmas.Bool.{cases_eq, cases_lt, eq-eqb, ne_eqb}
-use Rattle.range_core.specs.declared.Mode.{Mode}
-use Rattle.wait_core.specs.declared.Family.TheVariants.{Bytes, Whole}
-use Rattle.lock_server.specs.Calls.{ReleasesOn}
+use Rattle.lock_server.proofs.Common.{rules, ℕ, ◌≡◌, ◌≢◌, ◌+◌, ◌<◌, ◌≤◌, ◌∙◌, inl, inr, sym, ap, refl, subst, arith, Bool, true, false, Option, Some, None, [], common_steps, ◌&&◌, ◌||◌, if◌then◌else◌, cases_eq, cases_lt, eq-eqb, ne_eqb, Mode, Bytes, Whole, ReleasesOn, SeesOn, State, HasDetected, Crosses}
+use Rattle.std.specs.Prelude.{◌==◌}
 use Rattle.lock_server.specs.Closing.{ClosesOn, is_through}
-use Rattle.lock_server.specs.Openings.{ForgetsThrough, SeesOn, is_number}
-use Rattle.lock_server.specs.States.{State, HasDetected, Crosses}
+use Rattle.lock_server.specs.Openings.{ForgetsThrough, is_number}
 use Rattle.lock_server.proofs.CompatibleLemmas.{still_held}
 use Rattle.lock_server.proofs.SafeLemmas.{Moves, fewer_move, same_waits}
 use Rattle.lock_server.proofs.SettleLemmas.{crosses_then}

@@ -1,12 +1,6 @@
 -- All that is kept of a table and of openings, one owner and one file after another: for `Holdings::of` and `Holdings::leave_file`.
-use Rattle.std.proofs.Common.{arith, ℕ, ◌≡◌, ◌≢◌, ◌+◌, ◌<◌, ◌≤◌, ◌∙◌, inl, inr, sym, ap, subst, refl, true, false, Bool, List, get_or, length, take}
-use Rattle.std.proofs.lemmas.Bool.{cases_eq, cases_lt}
-use Rattle.std.proofs.lemmas.List.{take_all, take_more}
-use Rattle.std.proofs.lemmas.List.Elements.{All-nil, All-push}
-use Rattle.lock_server.specs.declared.Pending.{Pending}
-use Rattle.lock_server.specs.declared.holdings.Holdings.{Holdings}
-use Rattle.lock_server.specs.Holding.{AreOfOthers}
-use Rattle.lock_server.specs.HoldingsView.{EntersAll, EntersOn, Keeps, LeavesFile, keeps}
+use Rattle.lock_server.proofs.Common.{arith, ℕ, ◌≡◌, ◌≢◌, ◌+◌, ◌<◌, ◌≤◌, ◌∙◌, inl, inr, sym, ap, subst, refl, true, false, Bool, List, get_or, length, take, cases_eq, cases_lt, take_all, take_more, All-nil, All-push, Pending, Holdings, AreOfOthers, EntersOn, Keeps, LeavesFile, keeps}
+use Rattle.lock_server.specs.HoldingsView.{EntersAll}
 
 -- what is kept is kept on, where one more is
 pub entered_more : (old new : Holdings) (owner file : ℕ) → Keeps old new owner file true → (other any : ℕ) → keeps old other any ≡ true → keeps new other any ≡ true

@@ -1,23 +1,7 @@
 -- No owners conflict after a change that nothing blocked: for `LockServer::wait`.
-use Rattle.std.proofs.Common.{arith, ℕ, ◌≡◌, ◌≢◌, ◌∙◌, ◌⊎◌, inl, inr, sym, subst, refl, Bool, true, false, Option, Some, None, List}
-use Rattle.std.proofs.lemmas.Grind.{common_steps}
-use Rattle.std.specs.Prelude.{◌==◌, ◌&&◌, if◌then◌else◌}
-use Rattle.std.proofs.lemmas.Bool.{eqb-true, leb-true}
-use Rattle.range_core.specs.declared.Mode.{Mode}
-use Rattle.range_core.specs.declared.Span.{Span}
-use Rattle.range_core.specs.Ranges.{Conflict, Covers, HeldConflicts}
-use Rattle.range_core.specs.Changes.{is_covered}
-use Rattle.lock_book.specs.declared.Owner.TheVariants.{Description}
-use Rattle.wait_core.specs.declared.Family.{Family}
-use Rattle.wait_core.specs.declared.Family.TheVariants.{Bytes, Whole}
-use Rattle.wait_core.specs.declared.Policy.{Policy}
-use Rattle.wait_core.specs.declared.Policy.TheVariants.{Held, Queue}
-use Rattle.wait_core.specs.Blocking.{IsBlockedIn}
-use Rattle.lock_server.specs.declared.Pending.{Pending}
-use Rattle.lock_server.specs.Pendings.{as_wait}
-use Rattle.lock_server.specs.Files.{FileState, SetsLock, GetsLock, Unlocks, locks_on}
-use Rattle.lock_server.specs.Settling.{IsHeldBack, IsWaitBlocked}
-use Rattle.lock_server.specs.Safety.{IsCompatible}
+use Rattle.lock_server.proofs.Common.{arith, ℕ, ◌≡◌, ◌≢◌, ◌∙◌, ◌⊎◌, inl, inr, sym, subst, refl, Bool, true, false, Option, Some, None, List, common_steps, ◌&&◌, if◌then◌else◌, eqb-true, Mode, Span, Conflict, Covers, HeldConflicts, is_covered, Description, Family, Bytes, Whole, Policy, Held, Queue, IsBlockedIn, Pending, as_wait, FileState, SetsLock, GetsLock, Unlocks, locks_on, IsHeldBack, IsWaitBlocked, IsCompatible}
+use Rattle.std.specs.Prelude.{◌==◌}
+use Rattle.std.proofs.lemmas.Bool.{leb-true}
 use Rattle.lock_server.proofs.StepLemmas.{LocksFrom}
 
 conflict_back : (m k : Mode) → Conflict m k → Conflict k m

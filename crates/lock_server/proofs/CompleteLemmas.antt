@@ -1,22 +1,12 @@
 -- Where bytes are a server's export, they aren't refused: for `LockServer::import`.
-use Rattle.std.proofs.Common.{ℕ, ◌≡◌, sym, ap, subst, List, Option}
-use Rattle.std.specs.Prelude.{IsErrAnd, Ok, Err, Result}
+use Rattle.lock_server.proofs.Common.{ℕ, ◌≡◌, sym, ap, subst, List, Option, Ok, Err, Result, Rules, Parts, LockServer, IsExport, IsExportOf, AreNotesOf, AreOf, IsInventory, SameOpenings, inventory_of, told_by, IsSafe, rules_of, state_of, through_of, SameState, State}
+use Rattle.std.specs.Prelude.{IsErrAnd}
 use Rattle.range_core.specs.declared.memory.Memory.{Memory as Wanting}
 use Rattle.lock_server.specs.declared.ImportFault.{ImportFault}
 use Rattle.lock_server.specs.declared.ImportFault.TheVariants.{Invalid, Memory}
-use Rattle.lock_server.specs.declared.Rules.{Rules}
-use Rattle.lock_server.specs.declared.import.parts.Parts.{Parts}
-use Rattle.lock_server.specs.declared.server.LockServer.{LockServer}
-use Rattle.lock_server.specs.Bytes.{IsExport}
-use Rattle.lock_server.specs.Exports.{IsExportOf, IsInvalid}
-use Rattle.lock_server.specs.Importing.{AreNotesOf, AreOf}
-use Rattle.lock_server.specs.Inventory.{IsInventory}
-use Rattle.lock_server.specs.Openings.{SameOpenings}
+use Rattle.lock_server.specs.Exports.{IsInvalid}
 use Rattle.lock_server.specs.Ordered.{AreInOrder}
-use Rattle.lock_server.specs.Reading.{MayBeTold, Succeeds, Told, inventory_of, told_by}
-use Rattle.lock_server.specs.Safety.{IsSafe}
-use Rattle.lock_server.specs.ServerView.{rules_of, state_of, through_of}
-use Rattle.lock_server.specs.States.{SameState, State}
+use Rattle.lock_server.specs.Reading.{MayBeTold, Succeeds, Told}
 use Rattle.lock_server.proofs.OrderedLemmas.{in_order}
 use Rattle.lock_server.proofs.ServedLemmas.{all_may_stand, notes_of, parts_of}
 use Rattle.lock_server.proofs.StateLemmas.{state_from_same}

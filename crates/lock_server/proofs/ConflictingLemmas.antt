@@ -1,16 +1,10 @@
 -- The next wait that conflicts with another, and the next detected one of an owner: for `LockFile::next_conflicting`, `LockFile::add_steps`,
 -- `Table::next_detected` and what asks these.
-use Rattle.std.proofs.Common.{◌≡◌, ℕ, ◌+◌, ◌<◌, ◌≤◌, ◌∙◌, ◌&&◌, ◌==◌, true, false, Option, Some, None, List, [], ◌∷◌, zero, suc, Any, length, take, refl, sym, ap, arith}
-use Rattle.std.specs.Prelude.{◌↔◌, IfNone, IfSome, IsTrue, is_some, slice_get}
-use Rattle.std.proofs.lemmas.Bool.{eqb-true, eq-eqb}
-use Rattle.std.proofs.lemmas.Option.{same_Some}
-use Rattle.arrival_list.specs.Places.{IsPlaceFrom}
-use Rattle.lock_server.specs.declared.Pending.{Pending}
+use Rattle.lock_server.proofs.Common.{◌≡◌, ℕ, ◌+◌, ◌<◌, ◌≤◌, ◌∙◌, ◌==◌, true, false, Option, Some, None, List, [], ◌∷◌, zero, suc, Any, length, take, refl, sym, ap, arith, ◌↔◌, IfNone, IfSome, IsTrue, is_some, slice_get, eqb-true, eq-eqb, same_Some, IsPlaceFrom, Pending, are_conflicting, is_of_kind, AddsOwners, IsNextDetected, IsNoneDetected, PendingsConflict}
+use Rattle.std.proofs.Common.{◌&&◌}
 use Rattle.lock_server.specs.declared.asking.Kind.TheVariants.{Detected}
-use Rattle.lock_server.specs.Asking.{are_conflicting, is_of_kind, IsNextConflict, NoneConflicts}
-use Rattle.lock_server.specs.Blockers.{AddsOwners, IsNextDetected, IsNoneDetected}
+use Rattle.lock_server.specs.Asking.{IsNextConflict, NoneConflicts}
 use Rattle.lock_server.specs.Listing.{IsFirstConflict}
-use Rattle.lock_server.specs.Settling.{PendingsConflict}
 use Rattle.lock_server.proofs.AskingLemmas.{both, conflicting_test}
 use Rattle.lock_server.proofs.BlockerLemmas.{IsBeforeInTheWay}
 use Rattle.lock_server.proofs.GatheredOwnerLemmas.{AddsOwners-as, Any-from_place, Any-place, IsGivenBefore, gathered_more, gathered_past}

@@ -1,19 +1,10 @@
 -- Sums of what owners have, file by file, owner by owner and run by run: for the calls named `counts`.
-use Rattle.std.proofs.Common.{ℕ, zero, suc, ◌≡◌, ◌≢◌, ◌+◌, ◌-◌, ◌<◌, ◌≤◌, ◌∙◌, add-one, add-zero, add-suc, zero-add, inl, inr, sym, ap, subst, refl, arith, true, Bool, Option, Some, None, List, [], ◌∷◌, All, Any, length}
-use Rattle.std.specs.Prelude.{if◌then◌else◌, AllPairs}
-use Rattle.std.proofs.lemmas.Grind.{common_steps}
-use Rattle.std.proofs.lemmas.Bool.{cases_Bool, cases_eq, cases_lt}
-use Rattle.std.proofs.lemmas.Bool.Decides.{nat_tests}
-use Rattle.std.proofs.lemmas.List.Elements.{All-head, All-tail}
+use Rattle.lock_server.proofs.Common.{ℕ, zero, suc, ◌≡◌, ◌≢◌, ◌+◌, ◌-◌, ◌<◌, ◌≤◌, ◌∙◌, add-zero, add-suc, inl, inr, sym, ap, subst, refl, arith, true, Bool, Option, Some, None, List, [], ◌∷◌, All, Any, length, if◌then◌else◌, AllPairs, common_steps, cases_Bool, cases_eq, cases_lt, nat_tests, All-head, All-tail}
+use Rattle.lock_server.proofs.Common.{Mode, Read, Write, Span, AreRuns, Covers, IsByteRange, IsRun, Modes, is_within, flock_locks_on, runs_of, runs_on, told, FileState, untouched, State}
+use Rattle.std.proofs.Common.{add-one, zero-add}
 use Rattle.range_core.specs.declared.TheConstants.{OFFMAX}
-use Rattle.range_core.specs.declared.Mode.{Mode}
-use Rattle.range_core.specs.declared.Mode.TheVariants.{Read, Write}
-use Rattle.range_core.specs.declared.Span.{Span}
-use Rattle.range_core.specs.Ranges.{AreRuns, Covers, IsByteRange, IsConstant, IsRun, Modes}
-use Rattle.lock_server.specs.Clients.{is_within}
-use Rattle.lock_server.specs.Counting.{IsSum, IsTold, begins, begins_at, flock_locks_on, runs_of, runs_on, sum_below, told}
-use Rattle.lock_server.specs.Files.{FileState, untouched}
-use Rattle.lock_server.specs.States.{State}
+use Rattle.range_core.specs.Ranges.{IsConstant}
+use Rattle.lock_server.specs.Counting.{IsSum, IsTold, begins, begins_at, sum_below}
 use Rattle.lock_server.proofs.ClearedLemmas.{within_ends}
 use Rattle.lock_server.proofs.ListLemmas.{Any-cons, Any-weaker}
 

@@ -1,15 +1,8 @@
 -- Who is crossed after a change, by the waiters, and so by the state of a table: for `Table::cancel`, `close`, `close_owner` and others.
-use Rattle.std.proofs.lemmas.Grind.{common_steps}
-use Rattle.std.proofs.Common.{ℕ, ◌≡◌, ◌≢◌, ◌<◌, ◌∙◌, ◌⊎◌, inl, inr, sym, ap, refl, subst, arith, zero, suc, true, false, Bool, Option, Some, None, List, [], ◌∷◌, ◌++◌}
-use Rattle.std.specs.Prelude.{◌↔◌, IsTrue, Contains}
-use Rattle.std.proofs.lemmas.Bool.{cases_eq}
-use Rattle.range_core.specs.declared.Mode.{Mode}
-use Rattle.lock_server.specs.declared.Pending.{Pending}
-use Rattle.lock_server.specs.declared.waiters.Waiters.{Waiters}
+use Rattle.lock_server.proofs.Common.{common_steps, ℕ, ◌≡◌, ◌≢◌, ◌<◌, ◌∙◌, ◌⊎◌, inl, inr, sym, ap, refl, subst, arith, zero, suc, true, false, Bool, Option, Some, None, List, [], ◌∷◌, ◌++◌, ◌↔◌, IsTrue, cases_eq, Mode, Pending, Waiters, files_of, crossed_of, SameWaiters, Ends, State, Crosses, given_by}
+use Rattle.std.specs.Prelude.{Contains}
 use Rattle.lock_server.specs.WaitersView as view
-use Rattle.lock_server.specs.WaitersView.{files_of, crossed_of, SameWaiters, Begins, Ends}
-use Rattle.lock_server.specs.States.{State, Crosses}
-use Rattle.lock_server.specs.Calls.{given_by}
+use Rattle.lock_server.specs.WaitersView.{Begins}
 use Rattle.lock_server.proofs.WaiterMoves.{WaitersKnown, detected_somewhere, file_from_detected}
 
 -- an owner is crossed from now on just where it has a detected wait left, and was crossed or is given a lock now

@@ -1,33 +1,12 @@
 -- What a table's calls leave: of the fact `indexed`, and of the state, where the entry of one file is written.
-use Rattle.std.proofs.Common.{arith, ℕ, ◌≡◌, ◌≢◌, ◌∙◌, sym, ap, subst, refl, inl, inr, true, false, Bool, Option, Some, None, Result, Ok, Err, List, [], ◌∷◌, ◌++◌, All, Any}
-use Rattle.std.proofs.lemmas.Grind.{common_steps}
-use Rattle.std.specs.Prelude.{is_some, IsTrue, IsSome, IfNone, OnOk, OnErr}
-use Rattle.std.specs.Borrow.{MutBor}
-use Rattle.std.specs.Option.{option_copied_mut}
-use Rattle.std.proofs.lemmas.Bool.{cases_Bool, cases_eq}
-use Rattle.range_core.specs.declared.Mode.{Mode}
-use Rattle.range_core.specs.declared.Span.{Span}
-use Rattle.wait_core.specs.declared.Family.{Family}
-use Rattle.wait_core.specs.declared.Family.TheVariants.{Bytes, Whole}
-use Rattle.lock_server.specs.declared.Pending.{Pending}
-use Rattle.lock_server.specs.declared.file.LockFile.{LockFile}
-use Rattle.lock_server.specs.declared.files.Files.{Files}
-use Rattle.lock_server.specs.declared.table.Table.{Table}
-use Rattle.lock_server.specs.declared.tickets.Place.{Place}
-use Rattle.lock_server.specs.declared.tickets.Place.TheVariants.{Reserved, Waits}
-use Rattle.lock_server.specs.declared.tickets.Tickets.{Tickets}
-use Rattle.lock_server.specs.declared.waiters.Waiters.{Waiters}
-use Rattle.lock_server.specs.Files.{FileState, SetsBytes, SetsLock, Unlocks, Joins, Leaves, untouched}
-use Rattle.lock_server.specs.FileView.{file_state, keeps_place, state_at}
-use Rattle.lock_server.specs.FilesView.{PutsEntry, entry_in}
-use Rattle.lock_server.specs.Waiting.{IsReserved, IsReservedIn, KeepsFlockRoom}
-use Rattle.lock_server.specs.TableRoom.{KeepsRoomOn}
-use Rattle.lock_server.specs.TableView.{entry_of, table_state}
-use Rattle.lock_server.specs.Index.{IsIndexed, state_in}
-use Rattle.lock_server.specs.TicketsView.{place_at, grants_of, SetsPlace, SameTickets}
-use Rattle.lock_server.specs.WaitersView.{SameWaiters, BeginsIf, CrossesIf, EndsIf, HasRoomIf}
-use Rattle.lock_server.specs.States.{ChangesFile, IsPending}
-use Rattle.lock_server.specs.Calls.{ReleasesOn, SetsOn, given_by}
+use Rattle.lock_server.proofs.Common.{arith, ℕ, ◌≡◌, ◌≢◌, ◌∙◌, sym, ap, subst, refl, inl, inr, true, false, Bool, Option, Some, None, List, [], ◌∷◌, ◌++◌, All, Any, common_steps, is_some, IsTrue, IsSome, IfNone, OnOk, OnErr, MutBor, option_copied_mut, cases_Bool, cases_eq}
+use Rattle.lock_server.proofs.Common.{Mode, Span, Family, Bytes, Whole, Pending, LockFile, Files, Table, Place, Reserved, Waits, Tickets, Waiters, FileState, SetsBytes, SetsLock, Unlocks, Leaves, untouched, file_state, keeps_place, state_at, PutsEntry, entry_in, IsReservedIn, KeepsRoomOn, entry_of, table_state, IsIndexed, state_in, place_at, grants_of, SetsPlace, SameWaiters, EndsIf, ChangesFile, ReleasesOn, SetsOn, given_by}
+use Rattle.std.proofs.Common.{Result, Ok, Err}
+use Rattle.lock_server.specs.Files.{Joins}
+use Rattle.lock_server.specs.Waiting.{IsReserved, KeepsFlockRoom}
+use Rattle.lock_server.specs.TicketsView.{SameTickets}
+use Rattle.lock_server.specs.WaitersView.{BeginsIf, CrossesIf, HasRoomIf}
+use Rattle.lock_server.specs.States.{IsPending}
 use Rattle.lock_server.proofs.IndexLemmas.{IsIndexed-same, waits_kept}
 use Rattle.lock_server.proofs.ListLemmas.{Any-nil}
 use Rattle.lock_server.proofs.TicketMoves.{PutsWaits, IsIdle, has_key, itself, ticket_of, tickets_joined, tickets_left, tickets_noted}

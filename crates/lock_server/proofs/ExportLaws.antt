@@ -1,31 +1,10 @@
 -- A state has one export, and an export is of one state: for `exports_tell_states`.
-use Rattle.std.proofs.Common.{ℕ, ◌≡◌, ◌∙◌, sym, ap, subst, refl, arith, inl, inr, Bool, true, false, Option, Some, None, List, [], ◌∷◌, ◌++◌, length, drop, append_assoc}
-use Rattle.std.specs.Prelude.{◌⊎◌, ◌↔◌, IsTrue, Any, Contains}
-use Rattle.std.specs.List.{flat_map}
-use Rattle.std.proofs.lemmas.Bool.{cases_eq}
-use Rattle.range_core.specs.declared.Mode.{Mode}
-use Rattle.range_core.specs.declared.Mode.TheVariants.{Read, Write}
-use Rattle.range_core.specs.declared.Span.{Span}
-use Rattle.wait_core.specs.declared.Family.{Family}
-use Rattle.wait_core.specs.declared.Family.TheVariants.{Bytes, Whole}
-use Rattle.wait_core.specs.declared.Policy.{Policy}
-use Rattle.wait_core.specs.declared.Policy.TheVariants.{Held, Queue}
-use Rattle.lock_server.specs.declared.Conversion.{Conversion}
-use Rattle.lock_server.specs.declared.Conversion.TheVariants.{Stepwise, Atomic}
-use Rattle.lock_server.specs.declared.FlockLock.{FlockLock}
-use Rattle.lock_server.specs.declared.Lock.{Lock}
-use Rattle.lock_server.specs.declared.Rules.{Rules}
-use Rattle.lock_server.specs.declared.server.LockServer.{LockServer}
+use Rattle.lock_server.proofs.Common.{ℕ, ◌≡◌, ◌∙◌, sym, ap, subst, refl, arith, inl, inr, Bool, true, false, Option, Some, None, List, [], ◌∷◌, ◌++◌, length, drop, append_assoc, ◌↔◌, IsTrue, flat_map, cases_eq}
+use Rattle.lock_server.proofs.Common.{Mode, Read, Write, Span, Family, Bytes, Whole, Policy, Held, Queue, Conversion, Stepwise, Atomic, FlockLock, Lock, Rules, LockServer, IsExport, conversion_word, family_word, file_words, flag_word, flock_words, listed, lock_words, mode_word, note_words, number_words, policy_word, wait_words, IsExportOf, FileState, SameFile, untouched, AreFiles, AreByteLocks, AreJust, FileEntry, IsInventory, Note, SaysFile, entry_place, note_place, IsByteLock, IsFlockLock, flock_place, lock_place, SameOpenings, rules_of, state_of, through_of, State, SameState, bytes_of}
+use Rattle.std.specs.Prelude.{◌⊎◌, Any, Contains}
 use Rattle.lock_server.specs.Agreement.{SameServer}
-use Rattle.lock_server.specs.Bytes.{IsExport, conversion_word, export_words, family_word, file_words, flag_word, flock_words, inventory_words, listed, lock_words, mode_word, note_words, number_words, policy_word, wait_words}
-use Rattle.lock_server.specs.Exports.{IsExportOf}
-use Rattle.lock_server.specs.Files.{FileState, SameFile, untouched}
-use Rattle.lock_server.specs.Inventory.{AreFiles, AreByteLocks, AreJust, FileEntry, Inventory, IsFileEntry, IsInventory, Note, SaysFile, entry_place, note_place}
-use Rattle.lock_server.specs.Listing.{IsByteLock, IsFlockLock, flock_place, lock_place}
-use Rattle.lock_server.specs.Openings.{SameOpenings}
-use Rattle.lock_server.specs.ServerView.{rules_of, state_of, through_of}
-use Rattle.lock_server.specs.States.{State, SameState}
-use Rattle.lock_server.specs.Words.{bytes_of}
+use Rattle.lock_server.specs.Bytes.{export_words, inventory_words}
+use Rattle.lock_server.specs.Inventory.{Inventory, IsFileEntry}
 use Rattle.lock_server.proofs.JustLemmas.{Contains-here, Contains-there, just_one}
 use Rattle.lock_server.proofs.ListLemmas.{Any-nil, Any-cons}
 use Rattle.lock_server.proofs.StateLemmas.{SameFile-then, state_from_same}

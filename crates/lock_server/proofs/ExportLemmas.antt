@@ -1,56 +1,23 @@
 -- What the loops of an export go over, and what they put of it.
-use Rattle.std.proofs.Common.{ℕ, suc, ◌≡◌, ◌<◌, ◌≤◌, ◌+◌, ◌*◌, ◌^◌, ◌∙◌, min, take, drop, sym, ap, subst, refl, arith, inl, inr, true, false, Option, Some, None, List, [], ◌∷◌, ◌++◌, All, length, map, get_or}
-use Rattle.std.proofs.lemmas.Grind.{common_steps, flat_map-append}
-use Rattle.std.specs.Prelude.{◌⊎◌, AllPairs, Any, Contains, IsTrue, is_some}
-use Rattle.std.specs.BTreeMap.{IsOrdered, get}
-use Rattle.std.specs.Borrow.{Bor}
+use Rattle.lock_server.proofs.Common.{ℕ, suc, ◌≡◌, ◌<◌, ◌≤◌, ◌+◌, ◌*◌, ◌^◌, ◌∙◌, take, drop, sym, ap, subst, refl, arith, inl, inr, true, false, Option, Some, None, List, [], ◌∷◌, ◌++◌, All, length, map, get_or, common_steps, flat_map-append, AllPairs, IsTrue, is_some, get, Bor, flat_map, keys_of, lookup, deref_pair, nat_cmp, nat_tests, cases_lt, get_or_default, length-append, length-map, length-take-le, take-append-drop, take_at, all_pairs_push, AllPairs-cons, All-head, All-tail, All-weaker, Contains-append_left, Contains-push, Contains-push_cases}
+use Rattle.lock_server.proofs.Common.{Mode, Span, RangeList, modes_of, AreRuns, Covers, IsRun, Modes, Owner, Description, Book, byte_modes_of, is_same_owner, modes_in_list, FlockLock, Lock, Pending, Rules, LockFile, Files, Table, Waiter, Waiters, IsExport, family_word, file_words, flag_word, flock_words, listed, lock_words, mode_word, note_words, number_words, wait_words, file_state, state_at, entry_in, FileState, SameFile, untouched, AreByteLocks, AreFiles, AreJust, FileEntry, IsInventory, Note, SaysFile, entry_place, note_place, EndsBefore, IsByteLock, IsEarlier, IsFirstFrom, IsFlockLock, IsNextFrom, flock_place, lock_place, open_of, through_at, State, AreSwept, entry_of, table_state, crossed_of, waiter_of, Puts, PutsSome, bytes_of, greatest}
+use Rattle.std.proofs.Common.{min}
+use Rattle.std.specs.Prelude.{◌⊎◌, Any, Contains}
+use Rattle.std.specs.BTreeMap.{IsOrdered}
 use Rattle.std.specs.Global.{Box}
-use Rattle.std.specs.List.{flat_map}
-use Rattle.std.specs.Map.{keys_of, lookup}
-use Rattle.std.specs.Map.Iter.{deref_pair}
 use Rattle.std.specs.Option.{option_map}
-use Rattle.std.specs.Ordering.{nat_cmp}
-use Rattle.std.proofs.lemmas.Bool.Decides.{nat_tests}
-use Rattle.std.proofs.lemmas.Bool.{cases_lt}
-use Rattle.std.proofs.lemmas.List.{append-nil, drop_at, get_or_default, get_or-map, length-append, length-map, length-take-le, take-append-drop, take_at}
+use Rattle.std.proofs.lemmas.List.{append-nil, drop_at, get_or-map}
 use Rattle.std.proofs.lemmas.List.Folds.{flat_map-map}
-use Rattle.std.proofs.lemmas.List.Quantifiers.{all_pairs_push}
-use Rattle.std.proofs.lemmas.List.Kept.{AllPairs-cons}
-use Rattle.std.proofs.lemmas.List.Elements.{All-head, All-map, All-tail, All-weaker, Contains-append_left, Contains-push, Contains-push_cases}
+use Rattle.std.proofs.lemmas.List.Elements.{All-map}
 use Rattle.std.proofs.lemmas.Map.Views.{Contains-keys_from_lookup}
-use Rattle.range_core.specs.declared.Mode.{Mode}
-use Rattle.range_core.specs.declared.Span.{Span}
-use Rattle.range_core.specs.declared.list.RangeList.{RangeList}
-use Rattle.range_core.specs.Changes.{modes_of}
-use Rattle.range_core.specs.Ranges.{AreRuns, Covers, IsRun, Modes}
-use Rattle.lock_book.specs.declared.Owner.{Owner}
-use Rattle.lock_book.specs.declared.Owner.TheVariants.{Description}
-use Rattle.lock_book.specs.declared.book.Book.{Book}
-use Rattle.lock_book.specs.Books.{byte_modes_of}
-use Rattle.lock_book.specs.Owners.{IsBefore, is_same_owner}
-use Rattle.lock_book.specs.OwnerLists.{AreRising, modes_in_list}
-use Rattle.lock_server.specs.declared.FlockLock.{FlockLock}
-use Rattle.lock_server.specs.declared.Lock.{Lock}
-use Rattle.lock_server.specs.declared.Pending.{Pending}
-use Rattle.lock_server.specs.declared.Rules.{Rules}
-use Rattle.lock_server.specs.declared.file.LockFile.{LockFile}
-use Rattle.lock_server.specs.declared.files.Files.{Files}
+use Rattle.lock_book.specs.Owners.{IsBefore}
+use Rattle.lock_book.specs.OwnerLists.{AreRising}
 use Rattle.lock_server.specs.declared.openings.Openings.{Openings}
 use Rattle.lock_server.specs.declared.openings.Seen.{Seen}
-use Rattle.lock_server.specs.declared.table.Table.{Table}
-use Rattle.lock_server.specs.declared.waiters.Waiter.{Waiter}
-use Rattle.lock_server.specs.declared.waiters.Waiters.{Waiters}
-use Rattle.lock_server.specs.Bytes.{IsExport, export_words, family_word, file_words, flag_word, flock_words, listed, lock_words, mode_word, note_words, number_words, rules_words, version, wait_words}
-use Rattle.lock_server.specs.FileView.{file_state, state_at}
-use Rattle.lock_server.specs.FilesView.{entry_in}
-use Rattle.lock_server.specs.Files.{FileState, SameFile, untouched}
-use Rattle.lock_server.specs.Inventory.{AreAllOf, AreByteLocks, AreFiles, AreJust, AreLocksOf, FileEntry, IsEntryOf, IsFileEntry, IsInventory, Inventory, Note, SaysFile, entry_place, note_place}
-use Rattle.lock_server.specs.Listing.{EndsBefore, IsByteLock, IsEarlier, IsFirstFrom, IsFlockLock, IsNextFrom, flock_place, lock_place}
-use Rattle.lock_server.specs.OpeningsView.{open_in, open_of, through_at}
-use Rattle.lock_server.specs.States.{State}
-use Rattle.lock_server.specs.TableView.{AreSwept, entry_of, table_state}
-use Rattle.lock_server.specs.WaitersView.{crossed_in, crossed_of, waiter_of}
-use Rattle.lock_server.specs.Words.{Puts, PutsSome, bytes_of, greatest}
+use Rattle.lock_server.specs.Bytes.{export_words, rules_words, version}
+use Rattle.lock_server.specs.Inventory.{AreAllOf, AreLocksOf, IsEntryOf, IsFileEntry, Inventory}
+use Rattle.lock_server.specs.OpeningsView.{open_in}
+use Rattle.lock_server.specs.WaitersView.{crossed_in}
 use Rattle.lock_server.proofs.ExportLaws.{entry_one, inventory_one}
 use Rattle.lock_server.proofs.JustLemmas.{All-at, AllPairs-nil, Contains-cons, Contains-here, Contains-nil, Contains-there, IsPiece, just_along, just_joined, just_none, just_single}
 use Rattle.lock_server.proofs.ListLemmas.{Any-nil, Any-here, Any-there, Any-cons}

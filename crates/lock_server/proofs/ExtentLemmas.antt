@@ -1,12 +1,5 @@
 -- From which byte to which an owner has locks: for `extent_of`, `LockFile::extent` and `LockFile::has_against`.
-use Rattle.std.proofs.Common.{arith, ℕ, ◌≡◌, ◌∙◌, ◌-◌, ◌<◌, ◌≤◌, inl, inr, sym, ap, subst, refl, Bool, true, false, Option, Some, None, List, Any, length, get_or}
-use Rattle.std.specs.Prelude.{IfNone, is_some, slice_get}
-use Rattle.std.proofs.lemmas.Bool.{cases_eq}
-use Rattle.std.proofs.lemmas.List.{get_or_default}
-use Rattle.std.proofs.lemmas.Option.{slice_get-get_or, slice_get_within}
-use Rattle.range_core.specs.declared.Mode.{Mode}
-use Rattle.range_core.specs.declared.Span.{Span}
-use Rattle.range_core.specs.Ranges.{AreRuns, Covers, IsRun, Modes}
+use Rattle.lock_server.proofs.Common.{arith, ℕ, ◌≡◌, ◌∙◌, ◌-◌, ◌<◌, ◌≤◌, inl, inr, sym, ap, subst, refl, Bool, true, false, Option, Some, None, List, Any, length, get_or, IfNone, is_some, slice_get, cases_eq, get_or_default, slice_get-get_or, slice_get_within, Mode, Span, AreRuns, Covers, IsRun, Modes}
 
 -- what stands at a place, whichever value is told past the end
 at_place : {X : Type 0} (xs : List X) (i : ℕ) (x d : X) → slice_get xs i ≡ Some x → get_or xs i d ≡ x

@@ -1,16 +1,5 @@
 -- What a file's waits and their room come to where one leaves: for `LockFile::cancel` and `LockFile::remove_at`.
-use Rattle.std.proofs.Common.{ℕ, ◌≡◌, ◌<◌, ◌∙◌, sym, subst, arith, suc, List, ◌∷◌, ◌++◌, All, length, get_or, take, drop}
-use Rattle.std.proofs.lemmas.Grind.{common_steps}
-use Rattle.std.proofs.lemmas.List.{length-take-le}
-use Rattle.range_core.specs.Ranges.{IsByteRange}
-use Rattle.lock_book.specs.declared.book.Book.{Book}
-use Rattle.wait_core.specs.declared.Family.{Family}
-use Rattle.wait_core.specs.declared.Family.TheVariants.{Bytes, Whole}
-use Rattle.lock_server.specs.declared.Pending.{Pending}
-use Rattle.lock_server.specs.declared.file.LockFile.{LockFile}
-use Rattle.lock_server.specs.Files.{FileState, Leaves, SameFile, SameLocks}
-use Rattle.lock_server.specs.Room.{HasRoom}
-use Rattle.lock_server.specs.Waiting.{IsReservedIn, LeavesAt}
+use Rattle.lock_server.proofs.Common.{ℕ, ◌≡◌, ◌<◌, ◌∙◌, sym, subst, arith, suc, List, ◌∷◌, ◌++◌, All, length, get_or, take, drop, common_steps, length-take-le, IsByteRange, Book, Family, Bytes, Whole, Pending, LockFile, FileState, Leaves, SameFile, SameLocks, HasRoom, IsReservedIn, LeavesAt}
 use Rattle.lock_server.proofs.LeaveLemmas.{All-without, split_at}
 use Rattle.lock_server.proofs.RoomLemmas.{HasRoom-left, byte_room_left, flock_place_left}
 

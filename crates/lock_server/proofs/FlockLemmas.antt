@@ -1,24 +1,9 @@
 -- Conversions by flock: for `flock_or_refuse`, `flock_or_wait`, `convert_or_refuse`, `convert_or_wait`, `flock` and `flock_wait`.
-use Rattle.std.proofs.Common.{arith, ℕ, ◌≡◌, ◌≢◌, ◌∙◌, inr, sym, subst, refl, Bool, false, true, Option, Some, None}
-use Rattle.std.proofs.lemmas.Grind.{common_steps}
+use Rattle.lock_server.proofs.Common.{arith, ℕ, ◌≡◌, ◌≢◌, ◌∙◌, inr, sym, subst, refl, Bool, false, true, Option, Some, None, common_steps, Mode, Read, Write, whole_file, Family, Whole, Policy, Pending, Answer, Rules, WaitAnswer, Table, FlockFrom, FlockWaitComesTo, FlockWaitFrom, IsRefused, ReleasesOn, SetsOn, keeps_place, SameState, State, IsReservedIn}
 use Rattle.std.specs.Option.{option_eq}
 use Rattle.range_core.specs.contracts.ModePartialEq.TheImpl.{eq-value as equality}
-use Rattle.range_core.specs.declared.Mode.{Mode}
-use Rattle.range_core.specs.declared.Mode.TheVariants.{Read, Write}
-use Rattle.lock_book.specs.Changes.{whole_file}
-use Rattle.wait_core.specs.declared.Family.{Family}
-use Rattle.wait_core.specs.declared.Family.TheVariants.{Whole}
-use Rattle.wait_core.specs.declared.Policy.{Policy}
-use Rattle.lock_server.specs.declared.Pending.{Pending}
-use Rattle.lock_server.specs.declared.Answer.{Answer}
-use Rattle.lock_server.specs.declared.Rules.{Rules}
-use Rattle.lock_server.specs.declared.WaitAnswer.{WaitAnswer}
-use Rattle.lock_server.specs.declared.table.Table.{Table}
-use Rattle.lock_server.specs.Calls.{FlockComesTo, FlockFrom, FlockWaitComesTo, FlockWaitFrom, IsRefused, ReleasesOn, SetsOn}
-use Rattle.lock_server.specs.FileView.{keeps_place}
-use Rattle.lock_server.specs.States.{SameState, State}
+use Rattle.lock_server.specs.Calls.{FlockComesTo}
 use Rattle.lock_server.specs.TableRoom.{HasFlockPlace, HasRoomFor}
-use Rattle.lock_server.specs.Waiting.{IsReservedIn}
 use Rattle.lock_server.proofs.StateLemmas.{state_from_same}
 
 -- a set of a flock lock, as the request asks for it

@@ -1,14 +1,8 @@
 -- The owners that a file keeps beside its book: for `LockFile::set_flock`, `LockFile::place_flock` and
 -- `LockFile::next_flock_owner`.
-use Rattle.std.proofs.lemmas.Grind.{common_steps}
-use Rattle.std.proofs.Common.{ℕ, ◌≡◌, ◌<◌, ◌≤◌, ◌∙◌, true, false, Option, Some, None, refl, sym, arith}
-use Rattle.std.specs.Prelude.{IfNone, IfSome, IsTrue}
-use Rattle.std.specs.BTreeSet.{BTreeSet, contains}
-use Rattle.std.specs.Ordering.{nat_cmp}
-use Rattle.std.proofs.lemmas.Bool.{cases_eq}
-use Rattle.range_core.specs.declared.Mode.{Mode}
-use Rattle.lock_book.specs.declared.book.Book.{Book}
-use Rattle.lock_book.specs.Books.{flock_modes_of, has_flock_place, SetsFlock}
+use Rattle.lock_server.proofs.Common.{common_steps, ℕ, ◌≡◌, ◌<◌, ◌≤◌, ◌∙◌, true, false, Option, Some, None, refl, sym, arith, IfNone, IfSome, IsTrue, contains, nat_cmp, cases_eq, Mode, Book, has_flock_place}
+use Rattle.std.specs.BTreeSet.{BTreeSet}
+use Rattle.lock_book.specs.Books.{flock_modes_of, SetsFlock}
 use Rattle.lock_server.specs.FlockOwners.{AreKnown}
 
 -- a mode that is set in its place makes no owner known that wasn't

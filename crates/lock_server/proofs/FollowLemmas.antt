@@ -1,33 +1,10 @@
 -- From an owner that was reached to those for which it waits: for `follow` and what it calls.
-use Rattle.std.proofs.lemmas.Grind.{common_steps}
-use Rattle.std.proofs.Common.{ℕ, ◌≡◌, ◌+◌, ◌<◌, ◌≤◌, ◌∙◌, ◌⊎◌, inl, inr, sym, ap, refl, subst, arith, Bool, true, false, Option, Some, None, List, [], ◌++◌, Any, Contains, length, take}
-use Rattle.std.specs.Prelude.{◌↔◌, if◌then◌else◌, IsTrue, slice_get}
-use Rattle.std.proofs.lemmas.Bool.{cases_eq, cases_lt}
+use Rattle.lock_server.proofs.Common.{common_steps, ℕ, ◌≡◌, ◌+◌, ◌<◌, ◌≤◌, ◌∙◌, ◌⊎◌, inl, inr, sym, ap, refl, subst, arith, Bool, true, false, Option, Some, None, List, [], ◌++◌, Any, Contains, length, take, ◌↔◌, if◌then◌else◌, IsTrue, slice_get, cases_eq, cases_lt, same_Some, slice_get-get_or, slice_get_within}
+use Rattle.lock_server.proofs.Common.{Mode, Read, Write, Span, is_covered, Covers, HeldConflicts, WaitsConflict, Policy, Held, Queue, Pending, Table, LookedAt, AddsGoingOn, AddsOwners, BlocksBefore, BlocksOn, IsGoingOn, IsNextDetected, IsNoneDetected, BlocksIn, IsBlockedByOwner, WaitsFor, WaitsForOn, FileState, state_in, IsFirstPartLacking, AreTold, Follows, looked_modes, as_wait, IsAtLeast, entry_of, table_state, files_of, Waiters}
 use Rattle.std.proofs.lemmas.List.{append-nil, append_assoc}
-use Rattle.std.proofs.lemmas.Option.{same_Some, slice_get-get_or, slice_get_within}
-use Rattle.range_core.specs.declared.Mode.{Mode}
-use Rattle.range_core.specs.declared.Mode.TheVariants.{Read, Write}
-use Rattle.range_core.specs.declared.Span.{Span}
-use Rattle.range_core.specs.Changes.{is_covered}
-use Rattle.range_core.specs.Ranges.{Covers, HeldConflicts}
-use Rattle.wait_core.specs.Blocking.{WaitsConflict}
-use Rattle.wait_core.specs.declared.Policy.{Policy}
-use Rattle.wait_core.specs.declared.Policy.TheVariants.{Held, Queue}
-use Rattle.lock_server.specs.declared.Pending.{Pending}
-use Rattle.lock_server.specs.declared.table.Table.{Table}
-use Rattle.lock_server.specs.declared.table.looked_at.LookedAt.{LookedAt}
 use Rattle.lock_server.specs.declared.table.reached.Reached.{Reached}
-use Rattle.lock_server.specs.Blockers.{AddsGoingOn, AddsOwners, BlocksBefore, BlocksOn, IsDetectedAt, IsGoingOn, IsNextDetected, IsNoneDetected}
-use Rattle.lock_server.specs.Deadlock.{BlocksIn, IsBlockedByOwner, WaitsFor, WaitsForOn}
-use Rattle.lock_server.specs.Files.{FileState}
-use Rattle.lock_server.specs.Index.{state_in}
-use Rattle.lock_server.specs.Lacking.{IsFirstPartLacking}
-use Rattle.lock_server.specs.LookedAt.{AreTold, Follows, NotesLook, looked_modes}
-use Rattle.lock_server.specs.Pendings.{as_wait}
-use Rattle.lock_server.specs.Settling.{IsAtLeast}
-use Rattle.lock_server.specs.TableView.{entry_of, table_state}
-use Rattle.lock_server.specs.WaitersView.{files_of}
-use Rattle.lock_server.specs.declared.waiters.Waiters.{Waiters}
+use Rattle.lock_server.specs.Blockers.{IsDetectedAt}
+use Rattle.lock_server.specs.LookedAt.{NotesLook}
 use Rattle.lock_server.proofs.BlockerLemmas.{IsStepAt, place_of_step, step_from_place}
 use Rattle.lock_server.proofs.GatheredOwnerLemmas.{AddsOwners-as, IsGivenBefore}
 use Rattle.lock_server.proofs.ReachedLemmas.{file_of_step, gathered_from_none}

@@ -1,17 +1,10 @@
 -- An owner that is forgotten, on one file and then on all: for `Table::dismiss` and `LockServer::forget`.
-use Rattle.std.proofs.Common.{rules, ℕ, ◌≡◌, ◌≢◌, ◌+◌, ◌<◌, ◌≤◌, ◌∙◌, inl, inr, sym, ap, refl, subst, arith, cond, not, Bool, false, Option, Some, None, List, [], ◌∷◌, ◌++◌, All, Contains, length, length-append}
-use Rattle.std.proofs.lemmas.Grind.{common_steps}
-use Rattle.std.specs.Prelude.{IsTrue, AllPairs, MatchOption, filter}
-use Rattle.std.proofs.lemmas.Bool.{cases_eq, cases_lt}
-use Rattle.std.proofs.lemmas.List.Elements.{All-head, All-nil, All-push, All-tail, All-weaker, Contains-append_left, Contains-push, filter-append}
-use Rattle.std.proofs.lemmas.List.Quantifiers.{all_pairs_push}
-use Rattle.wait_core.specs.declared.Family.TheVariants.{Bytes}
-use Rattle.wait_core.specs.declared.Policy.{Policy}
-use Rattle.lock_server.specs.declared.Pending.{Pending}
-use Rattle.lock_server.specs.Calls.{DismissesOn, Forgets, ForgetsIn, ForgetsOn, IsStrangerOn, ReleasesOn, is_other_wait}
-use Rattle.lock_server.specs.Files.{FileState, SameFile, SameLocks}
-use Rattle.lock_server.specs.Pendings.{is_byte_wait}
-use Rattle.lock_server.specs.States.{ChangesFile, Crosses, HasDetected, SameState, SettlesFile, State}
+use Rattle.lock_server.proofs.Common.{rules, ℕ, ◌≡◌, ◌≢◌, ◌+◌, ◌<◌, ◌≤◌, ◌∙◌, inl, inr, sym, ap, refl, subst, arith, cond, not, Bool, false, Option, Some, None, List, [], ◌∷◌, ◌++◌, All, Contains, length, common_steps, IsTrue, AllPairs, filter, cases_eq, cases_lt, All-head, All-nil, All-push, All-tail, All-weaker, Contains-append_left, Contains-push, all_pairs_push}
+use Rattle.lock_server.proofs.Common.{Bytes, Policy, Pending, ForgetsOn, IsStrangerOn, ReleasesOn, is_other_wait, FileState, SameFile, SameLocks, is_byte_wait, ChangesFile, Crosses, HasDetected, SameState, SettlesFile, State}
+use Rattle.std.proofs.Common.{length-append}
+use Rattle.std.specs.Prelude.{MatchOption}
+use Rattle.std.proofs.lemmas.List.Elements.{filter-append}
+use Rattle.lock_server.specs.Calls.{DismissesOn, Forgets, ForgetsIn}
 use Rattle.lock_server.proofs.SettleLemmas.{crosses_then, detected_before}
 use Rattle.lock_server.proofs.StateLemmas.{file_from_same, SameFile-itself, SameFile-then, state_from_same}
 

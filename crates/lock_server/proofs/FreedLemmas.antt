@@ -1,29 +1,11 @@
 -- Which waits stay blocked after a change: for `LockFile::freed_by_set`, `Reach::behind`, `LockServer::cancel` and others.
-use Rattle.std.proofs.Common.{arith, ℕ, ◌≡◌, ◌≢◌, ◌∙◌, ◌⊎◌, ◌≤◌, inl, inr, sym, ap, subst, refl, Bool, true, false, Option, Some, None, List, [], ◌∷◌, ◌++◌, All, Any, zero, suc, take, append_assoc, append-nil}
-use Rattle.std.specs.Prelude.{◌==◌, ◌&&◌, if◌then◌else◌, slice_get}
-use Rattle.std.proofs.lemmas.Bool.{cases_eq, cases_lt, eqb-true}
-use Rattle.std.proofs.lemmas.Bool.Decides.{nat_tests}
-use Rattle.std.proofs.lemmas.List.Elements.{All-head, All-tail}
-use Rattle.range_core.specs.declared.Mode.{Mode}
-use Rattle.range_core.specs.declared.Mode.TheVariants.{Read, Write}
-use Rattle.range_core.specs.declared.Span.{Span}
-use Rattle.range_core.specs.Ranges.{Conflict, Covers, HeldConflicts, IsByteRange}
-use Rattle.range_core.specs.Changes.{is_covered}
-use Rattle.lock_book.specs.declared.Owner.{Owner}
-use Rattle.lock_book.specs.declared.Owner.TheVariants.{Process, Description}
-use Rattle.wait_core.specs.declared.Family.{Family}
-use Rattle.wait_core.specs.declared.Family.TheVariants.{Bytes, Whole}
-use Rattle.wait_core.specs.declared.Policy.{Policy}
-use Rattle.wait_core.specs.declared.Policy.TheVariants.{Held, Queue}
-use Rattle.wait_core.specs.Blocking.{IsBlockedIn, Meet}
-use Rattle.lock_server.specs.declared.Pending.{Pending}
-use Rattle.lock_server.specs.declared.freed.Freed.{Freed}
-use Rattle.lock_server.specs.declared.freed.Freed.TheVariants.{Nobody, Of, Meeting, Anybody}
-use Rattle.lock_server.specs.declared.freed.Reach.{Reach}
-use Rattle.lock_server.specs.Files.{ClearsBytes, FileState, GetsLock, Leaves, SameLocks, SetsBytes, SetsFlock, SetsLock, by_owner, locks_on}
-use Rattle.lock_server.specs.Freed.{AllBlockedBut, AreBlockedBut, Frees, FreesBehind, IsAmong, Keeps, LeavingFrees, Reaches, SetFrees, TakesNothing, reach_of}
-use Rattle.lock_server.specs.Pendings.{as_wait}
-use Rattle.lock_server.specs.Settling.{AllBlocked, Grants, HasIn, IsAtLeast, IsHeldBack, IsSettled, IsWaitBlocked, PendingsConflict}
+use Rattle.lock_server.proofs.Common.{arith, ℕ, ◌≡◌, ◌≢◌, ◌∙◌, ◌⊎◌, ◌≤◌, inl, inr, sym, ap, subst, refl, Bool, true, false, Option, Some, None, List, [], ◌∷◌, ◌++◌, All, Any, zero, suc, take, append_assoc, append-nil, ◌&&◌, if◌then◌else◌, slice_get, cases_eq, cases_lt, eqb-true, nat_tests, All-head, All-tail}
+use Rattle.lock_server.proofs.Common.{Mode, Read, Write, Span, Conflict, Covers, HeldConflicts, IsByteRange, is_covered, Owner, Process, Description, Family, Bytes, Whole, Policy, Held, Queue, IsBlockedIn, Pending, Freed, Nobody, Of, Meeting, Reach, FileState, GetsLock, Leaves, SameLocks, SetsBytes, SetsFlock, SetsLock, by_owner, locks_on, AreBlockedBut, Frees, IsAmong, Reaches, SetFrees, TakesNothing, as_wait, AllBlocked, Grants, HasIn, IsAtLeast, IsHeldBack, IsSettled, IsWaitBlocked, PendingsConflict}
+use Rattle.std.specs.Prelude.{◌==◌}
+use Rattle.wait_core.specs.Blocking.{Meet}
+use Rattle.lock_server.specs.declared.freed.Freed.TheVariants.{Anybody}
+use Rattle.lock_server.specs.Files.{ClearsBytes}
+use Rattle.lock_server.specs.Freed.{AllBlockedBut, FreesBehind, Keeps, LeavingFrees, reach_of}
 use Rattle.lock_server.proofs.CompatibleLemmas.{hit}
 use Rattle.lock_server.proofs.LeaveLemmas.{Any-at}
 use Rattle.lock_server.proofs.ListLemmas.{Any-cons, Any-here, Any-nil, Any-there}

@@ -1,11 +1,5 @@
 -- Owners that loops gather: for `add_steps`, `add_blockers`, `add_holders`, `add_conflicting`.
-use Rattle.std.proofs.lemmas.Grind.{common_steps}
-use Rattle.std.proofs.Common.{ℕ, ◌≡◌, ◌+◌, ◌<◌, ◌≤◌, ◌∙◌, ◌⊎◌, inl, inr, sym, ap, subst, arith, Some, List, [], ◌∷◌, ◌++◌, Any, length}
-use Rattle.std.specs.Prelude.{◌↔◌, slice_get}
-use Rattle.std.proofs.lemmas.Bool.{cases_lt}
-use Rattle.std.proofs.lemmas.List.Elements.{Contains-append_left, Contains-push, Contains-push_cases}
-use Rattle.std.proofs.lemmas.Option.{same_Some, slice_get_within, slice_get-get_or, get_or_from_slice_get}
-use Rattle.lock_server.specs.Blockers.{AddsOwners}
+use Rattle.lock_server.proofs.Common.{common_steps, ℕ, ◌≡◌, ◌+◌, ◌<◌, ◌≤◌, ◌∙◌, ◌⊎◌, inl, inr, sym, ap, subst, arith, Some, List, [], ◌∷◌, ◌++◌, Any, length, ◌↔◌, slice_get, cases_lt, Contains-append_left, Contains-push, Contains-push_cases, same_Some, slice_get_within, slice_get-get_or, get_or_from_slice_get, AddsOwners}
 
 -- nothing more
 pub AddsOwners-same : (old : List ℕ) (Added : ℕ → Type 0) → ((other : ℕ) → ¬ Added other) → AddsOwners old old Added

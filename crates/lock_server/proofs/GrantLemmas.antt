@@ -1,28 +1,11 @@
 -- The wait at a place that is granted, and the place where a wait is found: for `LockFile::cancel`, `LockFile::dismiss`, `LockFile::give` and
 -- `LockFile::grant`.
-use Rattle.std.proofs.lemmas.Grind.{common_steps}
-use Rattle.std.proofs.Common.{ℕ, ◌≡◌, ◌+◌, ◌<◌, ◌∙◌, ap, Option, refl, sym, subst, arith, true, false, Bool, Some, None, List, [], ◌∷◌, ◌++◌, All, length, length-append, get_or}
-use Rattle.std.specs.Prelude.{◌&&◌, if◌then◌else◌, slice_get, IsTrue, IsOk, OnOk, Result, Ok, Err}
-use Rattle.std.proofs.lemmas.Option.{same_Some, slice_get-get_or, slice_get_cases, slice_get_within}
-use Rattle.arrival_list.specs.Places.{IsPlaceFrom}
-use Rattle.lock_book.specs.declared.Owner.TheVariants.{Description}
-use Rattle.range_core.specs.Ranges.{IsByteRange}
-use Rattle.range_core.specs.declared.Mode.{Mode}
-use Rattle.range_core.specs.declared.Span.{Span}
-use Rattle.range_core.specs.Changes.{is_covered}
-use Rattle.lock_book.specs.declared.Owner.{Owner}
-use Rattle.lock_book.specs.declared.book.Book.{Book}
-use Rattle.lock_book.specs.Owners.{is_same_owner}
-use Rattle.lock_book.specs.Books.{room_in, has_flock_place, SameButRoom, SetsOwnerMode}
-use Rattle.wait_core.specs.declared.Family.{Family}
-use Rattle.wait_core.specs.declared.Family.TheVariants.{Bytes, Whole}
-use Rattle.wait_core.specs.declared.Policy.{Policy}
-use Rattle.lock_server.specs.declared.Pending.{Pending}
-use Rattle.lock_server.specs.Files.{FileState, SameLocks, SetsLock, GetsLock}
-use Rattle.lock_server.specs.Settling.{Grants}
-use Rattle.lock_server.specs.Waiting.{IsReadyAt, IsReservedIn, LeavesAt}
+use Rattle.lock_server.proofs.Common.{common_steps, ℕ, ◌≡◌, ◌+◌, ◌<◌, ◌∙◌, ap, Option, refl, sym, subst, arith, true, false, Bool, Some, None, List, [], ◌∷◌, ◌++◌, All, length, get_or, ◌&&◌, if◌then◌else◌, slice_get, IsTrue, OnOk, Result, Ok, Err, same_Some, slice_get-get_or, slice_get_cases, slice_get_within}
+use Rattle.lock_server.proofs.Common.{IsPlaceFrom, Description, IsByteRange, Mode, Span, is_covered, Owner, Book, is_same_owner, room_in, has_flock_place, Family, Bytes, Whole, Policy, Pending, FileState, SameLocks, SetsLock, GetsLock, Grants, IsReadyAt, IsReservedIn, LeavesAt, LockFile}
+use Rattle.std.proofs.Common.{length-append}
+use Rattle.std.specs.Prelude.{IsOk}
+use Rattle.lock_book.specs.Books.{SameButRoom, SetsOwnerMode}
 use Rattle.lock_server.specs.Room.{byte_waits}
-use Rattle.lock_server.specs.declared.file.LockFile.{LockFile}
 
 -- two parts of a list at one place are the same
 pub record SameParts {X : Type 0} (xs ys : List X) (x y : X) (us vs : List X) : Type 0 where

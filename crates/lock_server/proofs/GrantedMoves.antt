@@ -1,30 +1,8 @@
 -- What a grant leaves of the fact `indexed`, and of the state: for `grant_next`.
-use Rattle.std.proofs.Common.{arith, ℕ, ◌≡◌, ◌∙◌, sym, ap, refl, inl, inr, Option, Some, [], ◌∷◌, ◌++◌}
-use Rattle.std.proofs.lemmas.Grind.{common_steps}
-use Rattle.std.specs.Prelude.{IsSome}
-use Rattle.std.specs.Borrow.{MutBor}
-use Rattle.std.specs.Option.{option_copied_mut}
-use Rattle.std.proofs.lemmas.Bool.{cases_eq}
-use Rattle.wait_core.specs.declared.Policy.{Policy}
-use Rattle.lock_server.specs.declared.Pending.{Pending}
-use Rattle.lock_server.specs.declared.file.LockFile.{LockFile}
-use Rattle.lock_server.specs.declared.files.Files.{Files}
-use Rattle.lock_server.specs.declared.table.Table.{Table}
-use Rattle.lock_server.specs.TableRoom.{KeepsRoomOn}
-use Rattle.lock_server.specs.TableView.{entry_of, table_state}
-use Rattle.lock_server.specs.declared.tickets.Place.TheVariants.{Reserved, Waits, Granted}
-use Rattle.lock_server.specs.declared.tickets.Tickets.{Tickets}
-use Rattle.lock_server.specs.declared.waiters.Waiters.{Waiters}
-use Rattle.lock_server.specs.Files.{FileState}
-use Rattle.lock_server.specs.FileView.{file_state, state_at}
-use Rattle.lock_server.specs.FilesView.{PutsEntry, entry_in}
-use Rattle.lock_server.specs.Index.{IsIndexed, state_in}
-use Rattle.lock_server.specs.TicketsView.{place_at, grants_of, SetsPlace}
+use Rattle.lock_server.proofs.Common.{arith, ℕ, ◌≡◌, ◌∙◌, sym, ap, refl, inl, inr, Option, Some, [], ◌∷◌, ◌++◌, common_steps, IsSome, MutBor, option_copied_mut, cases_eq}
+use Rattle.lock_server.proofs.Common.{Policy, Pending, LockFile, Files, Table, KeepsRoomOn, entry_of, table_state, Reserved, Waits, Granted, Tickets, Waiters, FileState, file_state, state_at, PutsEntry, entry_in, IsIndexed, state_in, place_at, grants_of, SetsPlace, EndsIf, Grants, Crosses, IsReadyAt}
 use Rattle.lock_server.specs.WaitersView as view
-use Rattle.lock_server.specs.WaitersView.{EndsIf}
-use Rattle.lock_server.specs.Settling.{Grants}
-use Rattle.lock_server.specs.States.{Crosses, GrantsOn}
-use Rattle.lock_server.specs.Waiting.{IsReadyAt}
+use Rattle.lock_server.specs.States.{GrantsOn}
 use Rattle.lock_server.proofs.CrossLemmas.{CrossesBy-crosses, CrossesBy-ended, CrossesBy-same, CrossesBy-then, Crosses-by}
 use Rattle.lock_server.proofs.EntryMoves.{SameWaiters-itself}
 use Rattle.lock_server.proofs.IndexLemmas.{same_from_eq}

@@ -1,14 +1,6 @@
 -- Whether owners from a first number to a last one have a lock: for the calls named `has_locks` of `LockFile` and `LockServer`.
-use Rattle.std.proofs.Common.{ℕ, ◌≡◌, ◌+◌, ◌<◌, ◌≤◌, ◌∙◌, inl, inr, sym, ap, subst, refl, arith, true, false, not, Bool, Option, Some, None, List, [], ◌∷◌, length}
-use Rattle.std.specs.Prelude.{◌↔◌, ◌==◌, ◌⊎◌, IsTrue, is_some}
-use Rattle.std.proofs.lemmas.Grind.{common_steps}
-use Rattle.std.proofs.lemmas.Bool.{cases_eq, cases_lt}
-use Rattle.std.proofs.lemmas.Bool.Decides.{nat_tests}
-use Rattle.range_core.specs.declared.Mode.{Mode}
-use Rattle.range_core.specs.declared.Span.{Span}
-use Rattle.range_core.specs.Ranges.{AreRuns, Modes}
-use Rattle.lock_server.specs.Clients.{HasByteLock, HasFlockLock, HaveLocksOn, is_within}
-use Rattle.lock_server.specs.Files.{FileState, SameFile, untouched}
+use Rattle.lock_server.proofs.Common.{ℕ, ◌≡◌, ◌+◌, ◌<◌, ◌≤◌, ◌∙◌, inl, inr, sym, ap, subst, refl, arith, true, false, not, Bool, Option, Some, None, List, [], ◌∷◌, length, ◌↔◌, IsTrue, is_some, common_steps, cases_eq, cases_lt, nat_tests, Mode, Span, AreRuns, Modes, HasByteLock, HasFlockLock, HaveLocksOn, is_within, FileState, SameFile, untouched}
+use Rattle.std.specs.Prelude.{◌==◌, ◌⊎◌}
 use Rattle.lock_server.proofs.ClearedLemmas.{within_ends}
 
 -- an owner among these of whom this holds

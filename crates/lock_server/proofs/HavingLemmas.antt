@@ -1,12 +1,7 @@
 -- What an owner has on each byte of a range, run by run: for `first_lacking`.
-use Rattle.std.proofs.Common.{arith, ℕ, ◌≡◌, ◌+◌, ◌<◌, ◌≤◌, inl, inr, sym, refl, subst, Bool, true, false, Option, Some, None}
-use Rattle.std.specs.Prelude.{◌↔◌, IfNone, IfSome, IsTrue, is_some, not}
-use Rattle.std.proofs.lemmas.Bool.{cases_lt}
-use Rattle.range_core.specs.declared.Mode.{Mode}
-use Rattle.range_core.specs.declared.Span.{Span}
-use Rattle.range_core.specs.Ranges.{Covers, IsRun, Modes}
+use Rattle.lock_server.proofs.Common.{arith, ℕ, ◌≡◌, ◌+◌, ◌<◌, ◌≤◌, inl, inr, sym, refl, subst, Bool, true, false, Option, Some, None, ◌↔◌, IfNone, IfSome, IsTrue, is_some, cases_lt, Mode, Span, Covers, IsRun, Modes, IsAtLeast}
+use Rattle.std.specs.Prelude.{not}
 use Rattle.lock_server.specs.Lacking.{IsFirstLacking}
-use Rattle.lock_server.specs.Settling.{IsAtLeast}
 
 -- on each byte of the range before this one there is at least the wanted mode
 pub record HasBelow (modes : Modes) (span : Span) (wanted : Mode) (first : ℕ) : Type 0 where

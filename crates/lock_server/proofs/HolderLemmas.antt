@@ -1,19 +1,9 @@
 -- What the owners of a client have, by the files with which they are kept: for the calls named `forget_owners`, `has_locks` and `counts`.
-use Rattle.std.proofs.Common.{ℕ, ◌≡◌, ◌+◌, ◌<◌, ◌≤◌, ◌∙◌, inl, inr, sym, ap, subst, refl, arith, cond, true, false, not, Bool, Option, Some, None, List, [], ◌∷◌, All, get_or, length}
-use Rattle.std.specs.Prelude.{◌⊎◌, if◌then◌else◌, IfNone, IfSome, IsTrue, filter}
-use Rattle.std.proofs.lemmas.Bool.{cases_lt, cases_eq}
-use Rattle.std.proofs.lemmas.List.Elements.{All-head, All-tail}
-use Rattle.wait_core.specs.declared.Policy.{Policy}
-use Rattle.lock_server.specs.declared.Pending.{Pending}
-use Rattle.lock_server.specs.declared.holdings.Holdings.{Holdings}
-use Rattle.lock_server.specs.Clients.{HaveLocks, HaveLocksOn, StripsFile, is_within}
-use Rattle.lock_server.specs.Counting.{flock_locks_on, lock_of, runs_of, runs_on, waits_on}
-use Rattle.lock_server.specs.Files.{FileState, SameFile}
-use Rattle.lock_server.specs.Holding.{HasNothing}
-use Rattle.lock_server.specs.HoldingsView.{AreUnkept, HasNoneOf, IsBelow, KeepsHolders, keeps}
+use Rattle.lock_server.proofs.Common.{ℕ, ◌≡◌, ◌+◌, ◌<◌, ◌≤◌, ◌∙◌, inl, inr, sym, ap, subst, refl, arith, cond, true, false, not, Bool, Option, Some, None, List, [], ◌∷◌, All, get_or, length, if◌then◌else◌, IfNone, IfSome, IsTrue, filter, cases_lt, cases_eq, All-head, All-tail}
+use Rattle.lock_server.proofs.Common.{Policy, Pending, Holdings, HaveLocks, HaveLocksOn, StripsFile, is_within, flock_locks_on, lock_of, runs_of, runs_on, waits_on, FileState, SameFile, HasNothing, keeps, IsSettled, State}
+use Rattle.std.specs.Prelude.{◌⊎◌}
+use Rattle.lock_server.specs.HoldingsView.{AreUnkept, HasNoneOf, IsBelow, KeepsHolders}
 use Rattle.lock_server.specs.OpeningsView.{IsAbove}
-use Rattle.lock_server.specs.Settling.{IsSettled}
-use Rattle.lock_server.specs.States.{State}
 use Rattle.lock_server.proofs.ClearedLemmas.{within_ends}
 use Rattle.lock_server.proofs.ClientLemmas.{settled_untouched, stripped_one}
 use Rattle.lock_server.proofs.CountLemmas.{no_runs, not_counted, sum_none}

@@ -1,29 +1,11 @@
 -- Who has something on which file, after each change: for the server's fact `kept`.
-use Rattle.std.proofs.Common.{arith, ℕ, zero, suc, ◌≡◌, ◌≢◌, ◌∙◌, inl, inr, sym, ap, subst, refl, true, false, cond, not, Bool, Option, Some, None, List, [], ◌∷◌, ◌++◌}
-use Rattle.std.specs.Prelude.{◌==◌, ◌&&◌, Contains, IsTrue, filter, if◌then◌else◌}
-use Rattle.std.proofs.lemmas.Bool.{cases_Bool, cases_eq, eqb-true}
-use Rattle.std.proofs.lemmas.List.Elements.{All-cons, All-head, All-nil, All-push, All-tail, All-weaker}
-use Rattle.range_core.specs.declared.Mode.{Mode}
-use Rattle.range_core.specs.declared.Span.{Span}
-use Rattle.wait_core.specs.declared.Family.{Family}
-use Rattle.wait_core.specs.declared.Family.TheVariants.{Bytes, Whole}
-use Rattle.wait_core.specs.declared.Policy.{Policy}
-use Rattle.lock_server.specs.declared.Answer.{Answer}
-use Rattle.lock_server.specs.declared.Conversion.{Conversion}
-use Rattle.lock_server.specs.declared.Conversion.TheVariants.{Stepwise, Atomic}
-use Rattle.lock_server.specs.declared.Pending.{Pending}
-use Rattle.lock_server.specs.declared.Rules.{Rules}
-use Rattle.lock_server.specs.declared.WaitAnswer.{WaitAnswer}
-use Rattle.lock_server.specs.declared.holdings.Holdings.{Holdings}
-use Rattle.lock_server.specs.Calls.{ConversionComesTo, FetchComesTo, FlockFrom, FlockWaitFrom, Gives, IsStrangerOn, Releases, SetsOn, Suspends, TestAtOnceComesTo, TestComesTo, WaitAtOnceComesTo, WaitComesTo, WaitConversionComesTo, is_other_wait}
-use Rattle.lock_server.specs.Clients.{ForgetsFile, ForgetsOwners, ForgetsSeen, ForgetsSeenOn, SettlesBelow, StripsFile, is_within}
-use Rattle.lock_server.specs.Files.{FileState, SameFile, untouched}
-use Rattle.lock_server.specs.Holding.{AreOfOthers, HasNothing, IsGone}
-use Rattle.lock_server.specs.HoldingsView.{AreKept, Keeps, KeepsIf, LeavesFile, SameHoldings, Tidies, TidiesIf, keeps}
-use Rattle.lock_server.specs.Openings.{SeesOn}
-use Rattle.lock_server.specs.Pendings.{is_of_bytes}
-use Rattle.lock_server.specs.Settling.{Grants, Settles}
-use Rattle.lock_server.specs.States.{SameState, SettlesFile, State, opening}
+use Rattle.lock_server.proofs.Common.{arith, ℕ, zero, suc, ◌≡◌, ◌≢◌, ◌∙◌, inl, inr, sym, ap, subst, refl, true, false, cond, not, Bool, Option, Some, None, List, [], ◌∷◌, ◌++◌, ◌&&◌, IsTrue, filter, if◌then◌else◌, cases_Bool, cases_eq, eqb-true, All-cons, All-head, All-nil, All-push, All-tail, All-weaker}
+use Rattle.lock_server.proofs.Common.{Mode, Span, Family, Bytes, Whole, Policy, Answer, Conversion, Stepwise, Atomic, Pending, Rules, WaitAnswer, Holdings, FetchComesTo, FlockFrom, FlockWaitFrom, IsStrangerOn, Releases, SetsOn, Suspends, WaitAtOnceComesTo, WaitComesTo, WaitConversionComesTo, is_other_wait, ForgetsFile, ForgetsOwners, SettlesBelow, StripsFile, is_within, FileState, SameFile, untouched, AreOfOthers, HasNothing, Keeps, LeavesFile, keeps, SeesOn, is_of_bytes, Grants, Settles, SameState, SettlesFile, State, opening}
+use Rattle.std.specs.Prelude.{◌==◌, Contains}
+use Rattle.lock_server.specs.Calls.{ConversionComesTo, Gives, TestAtOnceComesTo, TestComesTo}
+use Rattle.lock_server.specs.Clients.{ForgetsSeen, ForgetsSeenOn}
+use Rattle.lock_server.specs.Holding.{IsGone}
+use Rattle.lock_server.specs.HoldingsView.{AreKept, KeepsIf, SameHoldings, Tidies, TidiesIf}
 use Rattle.lock_server.proofs.CompatibleLemmas.{from_set}
 use Rattle.lock_server.proofs.SafeClientLemmas.{strips_move}
 use Rattle.lock_server.proofs.SafeLemmas.{Moves, moves_released, moves_unset}

@@ -1,29 +1,13 @@
 -- A table that was built up from the parts of an export: for `Parts::table`.
-use Rattle.std.proofs.Common.{arith, ℕ, ◌≡◌, ◌∙◌, ◌<◌, ◌+◌, inl, inr, sym, ap, subst, List, [], ◌∷◌, ◌++◌, length, get_or, take}
-use Rattle.std.proofs.lemmas.Bool.{cases_eq}
-use Rattle.std.proofs.lemmas.List.{take_all, take_more}
-use Rattle.wait_core.specs.declared.Policy.{Policy}
-use Rattle.lock_server.specs.declared.Pending.{Pending}
-use Rattle.lock_server.specs.declared.import.parts.FilePart.{FilePart}
-use Rattle.lock_server.specs.declared.table.Table.{Table}
-use Rattle.lock_server.specs.Calls.{SetsOn, Suspends}
-use Rattle.lock_server.specs.Deadlock.{IsFreeOfCycles}
-use Rattle.lock_server.specs.Files.{FileState, SameLocks}
-use Rattle.lock_server.specs.Importing.{JoinsAll, SetsAll, SetsOnFile}
-use Rattle.lock_server.specs.Restoring.{AreCompatible, AreSettled, CrossesEach, JoinsEach, QueuesEach, SetsEach}
-use Rattle.lock_server.specs.Safety.{IsCompatible, IsSafe}
-use Rattle.lock_server.specs.Settling.{IsHeldBack, IsSettled}
-use Rattle.lock_server.specs.States.{SameState, State, opening}
-use Rattle.lock_server.specs.TableView.{table_state}
+use Rattle.lock_server.proofs.Common.{arith, ℕ, ◌≡◌, ◌∙◌, ◌<◌, ◌+◌, inl, inr, sym, ap, subst, List, [], ◌∷◌, ◌++◌, length, get_or, take, cases_eq, take_all, take_more, ◌↔◌}
+use Rattle.lock_server.proofs.Common.{Policy, Pending, FilePart, Table, SetsOn, Suspends, IsFreeOfCycles, FileState, SameLocks, JoinsAll, SetsAll, SetsOnFile, CrossesEach, JoinsEach, QueuesEach, SetsEach, IsCompatible, IsSafe, IsHeldBack, IsSettled, SameState, State, opening, table_state, LockServer, IsExportOf, rules_of, state_of, through_of, greatest}
+use Rattle.lock_server.specs.Restoring.{AreCompatible, AreSettled}
 use Rattle.lock_server.proofs.CompatibleLemmas.{compatible_fewer, compatible_gets}
 use Rattle.lock_server.proofs.SafeLemmas.{safe_opening}
 use Rattle.lock_server.proofs.StateLemmas.{SameState-itself, file_from_same, state_from_same}
 use Rattle.lock_server.proofs.TakenLemmas.{tickets_once}
-use Rattle.std.specs.Prelude.{◌↔◌, Some, min}
-use Rattle.lock_server.specs.declared.server.LockServer.{LockServer}
-use Rattle.lock_server.specs.Exports.{ExportComesTo, IsExportOf}
-use Rattle.lock_server.specs.ServerView.{rules_of, state_of, through_of}
-use Rattle.lock_server.specs.Words.{greatest}
+use Rattle.std.specs.Prelude.{Some, min}
+use Rattle.lock_server.specs.Exports.{ExportComesTo}
 use Rattle.lock_server.proofs.ExportLaws.{export_one}
 
 -- the same locks conflict as little

@@ -1,20 +1,6 @@
 -- What is known of tickets and of owners, where a file changes: for `Table::cancel`, `Table::dismiss_one`, `Table::give_back_place` and others.
-use Rattle.std.proofs.Common.{arith, ℕ, ◌≡◌, ◌≢◌, ◌==◌, inl, inr, sym, refl, subst, true, Bool, Option, Some, List, [], ◌∷◌, Any}
-use Rattle.std.proofs.lemmas.Grind.{common_steps}
-use Rattle.std.specs.Prelude.{◌&&◌, AllPairs}
-use Rattle.std.specs.Borrow.{MutBor}
-use Rattle.std.specs.Option.{option_copied_mut, option_map}
-use Rattle.std.proofs.lemmas.Bool.{cases_Bool, cases_eq, eqb-true}
-use Rattle.lock_server.specs.declared.Pending.{Pending}
-use Rattle.lock_server.specs.declared.file.LockFile.{LockFile}
-use Rattle.lock_server.specs.declared.files.Files.{Files}
-use Rattle.lock_server.specs.declared.tickets.Tickets.{Tickets}
-use Rattle.lock_server.specs.declared.waiters.Waiters.{Waiters}
-use Rattle.lock_server.specs.Files.{FileState, SameFile}
-use Rattle.lock_server.specs.FileView.{file_state}
-use Rattle.lock_server.specs.FilesView.{PutsEntry, entry_in}
-use Rattle.lock_server.specs.States.{IsDetectedOf}
-use Rattle.lock_server.specs.Index.{IsIndexed, state_in, detected_waits}
+use Rattle.lock_server.proofs.Common.{arith, ℕ, ◌≡◌, ◌≢◌, ◌==◌, inl, inr, sym, refl, subst, true, Bool, Option, Some, List, [], ◌∷◌, Any, common_steps, ◌&&◌, AllPairs, MutBor, option_copied_mut, cases_Bool, cases_eq, eqb-true, Pending, LockFile, Files, Tickets, Waiters, FileState, SameFile, file_state, PutsEntry, entry_in, IsDetectedOf, IsIndexed, state_in, detected_waits}
+use Rattle.std.specs.Option.{option_map}
 use Rattle.lock_server.proofs.ListLemmas.{Any-here, Any-there}
 
 -- the entry that was lent, and what a write through it puts there

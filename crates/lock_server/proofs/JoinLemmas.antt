@@ -1,19 +1,6 @@
 -- What holds between two calls holds after a wait joined that closes no cycle: for the server's fact `safe`.
-use Rattle.std.proofs.Common.{arith, ℕ, ◌≡◌, ◌∙◌, ◌⊎◌, inl, inr, sym, ap, subst, refl, List, [], ◌∷◌, ◌++◌}
-use Rattle.std.proofs.lemmas.Grind.{common_steps}
-use Rattle.std.specs.Prelude.{IsTrue}
-use Rattle.std.proofs.lemmas.Bool.{cases_eq}
-use Rattle.wait_core.specs.declared.Family.{Family}
-use Rattle.wait_core.specs.declared.Family.TheVariants.{Bytes, Whole}
-use Rattle.wait_core.specs.declared.Policy.{Policy}
-use Rattle.wait_core.specs.declared.Policy.TheVariants.{Held, Queue}
-use Rattle.lock_server.specs.declared.Pending.{Pending}
-use Rattle.lock_server.specs.Files.{FileState, Joins}
-use Rattle.lock_server.specs.Settling.{AllBlocked, HasIn, IsSettled, IsWaitBlocked}
-use Rattle.lock_server.specs.States.{State}
-use Rattle.lock_server.specs.Deadlock.{IsBlockedByOwner, WaitsFor, WaitsForOn, WaitsUncrossed, IsFreeOfCycles}
-use Rattle.lock_server.specs.Safety.{IsCompatible, IsSafe, AreTicketsOnce}
-use Rattle.lock_server.specs.Calls.{Suspends, IsRefused}
+use Rattle.lock_server.proofs.Common.{arith, ℕ, ◌≡◌, ◌∙◌, ◌⊎◌, inl, inr, sym, ap, subst, refl, List, [], ◌∷◌, ◌++◌, common_steps, IsTrue, cases_eq, Family, Bytes, Whole, Policy, Held, Queue, Pending, FileState, AllBlocked, HasIn, IsSettled, IsWaitBlocked, State, IsBlockedByOwner, WaitsFor, WaitsForOn, WaitsUncrossed, IsFreeOfCycles, IsCompatible, IsSafe, AreTicketsOnce, Suspends, IsRefused}
+use Rattle.lock_server.specs.Files.{Joins}
 use Rattle.lock_server.proofs.ReachedLemmas.{another_blocks}
 use Rattle.lock_server.proofs.ChainLemmas.{chain_weaker, free_joined}
 use Rattle.lock_server.proofs.ListLemmas.{no_place}

@@ -1,14 +1,7 @@
 -- Lists in rising order that say all that has a property: there is one, and it may be put together of pieces.
-use Rattle.std.proofs.Common.{◌≡◌, ◌<◌, ◌∙◌, sym, subst, refl, arith, inl, inr, zero, suc, ℕ, List, [], ◌∷◌, ◌++◌, All, length, map, get_or}
-use Rattle.std.proofs.lemmas.Grind.{common_steps}
-use Rattle.std.specs.Prelude.{◌↔◌, ◌⊎◌, AllPairs, Contains}
-use Rattle.std.specs.List.{flat_map}
-use Rattle.std.proofs.lemmas.Bool.{cases_lt}
-use Rattle.std.proofs.lemmas.List.{get_or_append_left, get_or_default, length-append}
-use Rattle.std.proofs.lemmas.List.Elements.{All-head, All-tail, Contains-append_left, Contains-append_right, Contains-append_cases}
+use Rattle.lock_server.proofs.Common.{◌≡◌, ◌<◌, ◌∙◌, sym, subst, refl, arith, inl, inr, zero, suc, ℕ, List, [], ◌∷◌, ◌++◌, All, length, map, get_or, common_steps, ◌↔◌, AllPairs, flat_map, cases_lt, get_or_append_left, get_or_default, length-append, All-head, All-tail, Contains-append_left, Contains-append_right, Contains-append_cases, AreJust, IsEarlier}
+use Rattle.std.specs.Prelude.{◌⊎◌, Contains}
 use Rattle.std.proofs.Math.Seq.{get_or-append_right}
-use Rattle.lock_server.specs.Inventory.{AreJust}
-use Rattle.lock_server.specs.Listing.{IsEarlier}
 
 module _ {A : Type 0} where
   pub Contains-nil : (x : A) → ¬ Contains [] x

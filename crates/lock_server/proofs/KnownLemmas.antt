@@ -1,34 +1,13 @@
 -- What the server knows of its waits can be had: each is blocked by something that is found, though it is only known that there is some. For
 -- `LockServer::set`, `LockServer::cancel` and others.
-use Rattle.std.proofs.Common.{arith, ℕ, zero, suc, ◌≡◌, ◌∙◌, ◌+◌, ◌<◌, ◌≤◌, ◌⊎◌, inl, inr, sym, ap, subst, refl, true, false, cond, Bool, Option, Some, None, List, [], ◌∷◌, ◌++◌, Any}
-use Rattle.std.specs.Prelude.{◌==◌, ◌&&◌, not}
-use Rattle.std.proofs.lemmas.Bool.{cases_eq, cases_lt, eqb-true}
-use Rattle.std.proofs.lemmas.Bool.Decides.{nat_tests}
-use Rattle.std.proofs.Math.Logic.{∥∥₁_elim, ∥∥₁_map}
+use Rattle.lock_server.proofs.Common.{arith, ℕ, zero, suc, ◌≡◌, ◌∙◌, ◌+◌, ◌<◌, ◌≤◌, ◌⊎◌, inl, inr, sym, ap, subst, refl, true, false, cond, Bool, Option, Some, None, List, [], ◌∷◌, ◌++◌, Any, ◌&&◌, cases_eq, cases_lt, eqb-true, nat_tests, ∥∥₁_elim, ∥∥₁_map}
+use Rattle.lock_server.proofs.Common.{Mode, Read, Write, Span, is_covered, Conflict, Covers, HeldConflicts, Owner, Process, Description, Family, Bytes, Whole, Policy, Held, Queue, IsBlockedIn, Pending, Table, FileState, by_owner, locks_on, as_wait, IsSafe, AllBlocked, HasAlready, HasIn, IsAtLeast, IsHeldBack, IsSettled, IsWaitBlocked, PendingsConflict, table_state}
+use Rattle.std.specs.Prelude.{◌==◌, not}
 use Rattle.std.proofs.Math.Path.{Σ_path}
 use Rattle.std.proofs.Props.{props}
 use mathlib.Core.HLevel.{is_prop→PathP}
-use Rattle.range_core.specs.declared.Mode.{Mode}
-use Rattle.range_core.specs.declared.Mode.TheVariants.{Read, Write}
-use Rattle.range_core.specs.declared.Span.{Span}
-use Rattle.range_core.specs.Changes.{is_covered}
-use Rattle.range_core.specs.Ranges.{Conflict, Covers, HeldConflicts}
-use Rattle.lock_book.specs.declared.Owner.{Owner}
-use Rattle.lock_book.specs.declared.Owner.TheVariants.{Process, Description}
 use Rattle.lock_book.specs.Conflicts.{Blocks}
-use Rattle.wait_core.specs.declared.Family.{Family}
-use Rattle.wait_core.specs.declared.Family.TheVariants.{Bytes, Whole}
-use Rattle.wait_core.specs.declared.Policy.{Policy}
-use Rattle.wait_core.specs.declared.Policy.TheVariants.{Held, Queue}
-use Rattle.wait_core.specs.Blocking.{IsBlockedIn}
-use Rattle.lock_server.specs.declared.Pending.{Pending}
-use Rattle.lock_server.specs.declared.table.Table.{Table}
-use Rattle.lock_server.specs.Files.{FileState, by_owner, locks_on}
 use Rattle.lock_server.specs.Freed.{reach_of}
-use Rattle.lock_server.specs.Pendings.{as_wait}
-use Rattle.lock_server.specs.Safety.{IsSafe}
-use Rattle.lock_server.specs.Settling.{AllBlocked, HasAlready, HasIn, IsAtLeast, IsHeldBack, IsSettled, IsWaitBlocked, PendingsConflict}
-use Rattle.lock_server.specs.TableView.{table_state}
 use Rattle.lock_server.proofs.FreedLemmas.{conflict_reaches, reaches_or_not}
 use Rattle.lock_server.proofs.ListLemmas.{Any-cons, Any-here, Any-nil, Any-there}
 

@@ -1,8 +1,5 @@
 -- A wait that leaves the list of a file: for `add_conflicting`, `Table::add_going_on`, `LockFile::add_holders` and others.
-use Rattle.std.proofs.Common.{ℕ, ◌≡◌, ◌+◌, ◌<◌, ◌∙◌, inl, inr, sym, ap, arith, true, false, cond, Bool, suc, List, [], ◌∷◌, ◌++◌, All, Any, length, get_or, take, drop}
-use Rattle.std.specs.Prelude.{filter}
-use Rattle.std.proofs.lemmas.List.{take-append-drop}
-use Rattle.std.proofs.lemmas.List.Elements.{All-cons, All-head, All-tail}
+use Rattle.lock_server.proofs.Common.{ℕ, ◌≡◌, ◌+◌, ◌<◌, ◌∙◌, inl, inr, sym, ap, arith, true, false, cond, Bool, suc, List, [], ◌∷◌, ◌++◌, All, Any, length, get_or, take, drop, filter, take-append-drop, All-cons, All-head, All-tail}
 use Rattle.std.proofs.Math.Seq.{drop-cons}
 use Rattle.lock_server.proofs.ListLemmas.{Any-here, Any-there, Any-cons}
 

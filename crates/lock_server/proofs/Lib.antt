@@ -1,3 +1,4 @@
+mod Common
 pub mod TicketLemmas
 pub mod ListLemmas
 pub mod PairLemmas

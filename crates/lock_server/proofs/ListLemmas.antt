@@ -1,12 +1,7 @@
 -- Some element of a list: of one that was mapped, and of waits that block; for `LockServer::flock_or_wait`, `LockFile::is_blocked_at` and
 -- `LockFile::is_wait_blocked`.
-use Rattle.std.proofs.Common.{◌≡◌, ◌⊎◌, inl, inr, sym, subst, refl, arith, zero, suc, List, [], ◌∷◌, ◌++◌, Any, length}
-use Rattle.std.specs.Prelude.{◌↔◌, Bool, IsTrue}
-use Rattle.wait_core.specs.declared.Policy.{Policy}
-use Rattle.wait_core.specs.declared.Policy.TheVariants.{Held, Queue}
-use Rattle.lock_server.specs.declared.Pending.{Pending}
-use Rattle.lock_server.specs.Files.{FileState}
-use Rattle.lock_server.specs.Settling.{IsBlockedUnless, IsHeldBack, PendingsConflict}
+use Rattle.lock_server.proofs.Common.{◌≡◌, ◌⊎◌, inl, inr, sym, subst, refl, arith, zero, suc, List, [], ◌∷◌, ◌++◌, Any, length, ◌↔◌, IsTrue, Policy, Held, Queue, Pending, FileState, IsBlockedUnless, IsHeldBack, PendingsConflict}
+use Rattle.std.specs.Prelude.{Bool}
 
 module _ {X : Type 0} where
   pub Any-nil : (P : X → Type 0) → ¬ Any P []

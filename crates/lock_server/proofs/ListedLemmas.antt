@@ -1,20 +1,8 @@
 -- The next owner in the lists of a book: for `LockFile::next_listed`.
-use Rattle.std.proofs.Common.{ℕ, suc, ◌≡◌, ◌<◌, ◌≤◌, ◌∙◌, ap, sym, refl, arith, subst, true, false, All, List, [], ◌∷◌, Option, Some, None, get_or}
-use Rattle.std.specs.Prelude.{IfNone}
-use Rattle.std.specs.Map.{lookup}
-use Rattle.std.specs.declared.ops.Bound.{Bound}
+use Rattle.lock_server.proofs.Common.{ℕ, suc, ◌≡◌, ◌<◌, ◌≤◌, ◌∙◌, ap, sym, refl, arith, subst, true, false, All, List, [], ◌∷◌, Option, Some, None, get_or, IfNone, lookup, Bound, cases_Bool, nat_tests, common_steps, All-cons, All-head, All-tail, RangeList, Owner, Process, Description, ByteModes, modes_in_list, is_same_owner, number_behind}
 use Rattle.std.specs.declared.ops.Bound.TheVariants.{Included, Excluded}
-use Rattle.std.proofs.lemmas.Bool.{cases_Bool}
-use Rattle.std.proofs.lemmas.Bool.Decides.{nat_tests}
-use Rattle.std.proofs.lemmas.Grind.{common_steps}
-use Rattle.std.proofs.lemmas.List.Elements.{All-cons, All-head, All-tail}
-use Rattle.range_core.specs.declared.list.RangeList.{RangeList}
-use Rattle.lock_book.specs.declared.Owner.{Owner}
-use Rattle.lock_book.specs.declared.Owner.TheVariants.{Process, Description}
-use Rattle.lock_book.specs.Conflicts.{ByteModes}
-use Rattle.lock_book.specs.OwnerLists.{AreRising, modes_in_list}
-use Rattle.lock_book.specs.Owners.{IsBefore, is_from, is_same_owner}
-use Rattle.lock_server.specs.Listing.{number_behind}
+use Rattle.lock_book.specs.OwnerLists.{AreRising}
+use Rattle.lock_book.specs.Owners.{IsBefore, is_from}
 
 -- from where on the owners are looked through, to find those beyond one
 abbrev pub bound_beyond : Option ℕ → Bound Owner

@@ -1,24 +1,9 @@
 -- What is in the way of a wait: for `LockFile::lock_in_the_way`, `LockFile::obstacle` and `LockServer::wait_at`.
-use Rattle.std.proofs.Common.{ℕ, ◌≡◌, ◌≢◌, ◌<◌, inl, inr, sym, ap, subst, refl, arith, append_assoc, append-nil, Option, Some, None, List, [], ◌∷◌, ◌++◌, length, take, zero, suc}
-use Rattle.std.specs.Prelude.{Any, slice_get}
-use Rattle.std.proofs.Math.Logic.{∥∥₁_elim}
-use mathlib.Core.HLevel.{⊥_prop}
-use Rattle.std.proofs.lemmas.Option.{slice_get_cases}
-use Rattle.range_core.specs.declared.Mode.{Mode}
-use Rattle.range_core.specs.Ranges.{HeldConflicts}
+use Rattle.lock_server.proofs.Common.{ℕ, ◌≡◌, ◌≢◌, ◌<◌, inl, inr, sym, ap, subst, refl, arith, append_assoc, append-nil, Option, Some, None, List, [], ◌∷◌, ◌++◌, length, take, zero, suc, slice_get, ∥∥₁_elim, ⊥_prop, slice_get_cases}
+use Rattle.lock_server.proofs.Common.{Mode, HeldConflicts, Description, Family, Whole, Policy, Held, Queue, IsBlockedIn, FlockLock, Pending, FileState, locks_on, EndsBefore, flock_place, as_wait, AllBlocked, IsHeldBack, IsSettled, IsWaitBlocked, PendingsConflict}
+use Rattle.std.specs.Prelude.{Any}
 use Rattle.lock_book.specs.Conflicts.{FlockConflict}
-use Rattle.lock_book.specs.declared.Owner.TheVariants.{Description}
-use Rattle.wait_core.specs.declared.Family.{Family}
-use Rattle.wait_core.specs.declared.Family.TheVariants.{Whole}
-use Rattle.wait_core.specs.declared.Policy.{Policy}
-use Rattle.wait_core.specs.declared.Policy.TheVariants.{Held, Queue}
-use Rattle.wait_core.specs.Blocking.{IsBlockedIn}
-use Rattle.lock_server.specs.declared.FlockLock.{FlockLock}
-use Rattle.lock_server.specs.declared.Pending.{Pending}
-use Rattle.lock_server.specs.Files.{FileState, locks_on}
-use Rattle.lock_server.specs.Listing.{EndsBefore, IsFlockInTheWay, flock_place}
-use Rattle.lock_server.specs.Pendings.{as_wait}
-use Rattle.lock_server.specs.Settling.{AllBlocked, IsHeldBack, IsSettled, IsWaitBlocked, PendingsConflict}
+use Rattle.lock_server.specs.Listing.{IsFlockInTheWay}
 
 -- a flock mode that conflicts is a lock in the way
 flock_in_the_way : (F : FileState) (owner : ℕ) (mode : Mode) (other : ℕ) (held : Option Mode) → F.flocks other ≡ held → other ≢ owner

@@ -1,21 +1,9 @@
 -- On which bytes a search looked: for `LookedAt`.
-use Rattle.std.proofs.Common.{ℕ, ◌≡◌, ◌-◌, ◌<◌, ◌∙◌, inl, inr, sym, ap, subst, arith, Option, Some, None}
-use Rattle.std.specs.Prelude.{◌↔◌}
-use Rattle.std.specs.BTreeMap.{UpdatesBy, get}
-use Rattle.std.specs.Borrow.{Bor}
-use Rattle.std.specs.Option.{option_copied}
-use Rattle.std.specs.Ordering.{nat_cmp}
-use Rattle.std.proofs.lemmas.Bool.{cases_eq}
-use Rattle.range_core.specs.declared.Mode.{Mode}
-use Rattle.range_core.specs.declared.Span.{Span}
-use Rattle.range_core.specs.declared.list.RangeList.{RangeList}
-use Rattle.range_core.specs.Changes.{SetsMode, modes_of, modes_with}
-use Rattle.range_core.specs.Ranges.{Covers, HeldConflicts, IsByteRange, IsFirstHit, Modes}
-use Rattle.lock_book.specs.OwnerLists.{modes_in_list}
-use Rattle.lock_server.specs.declared.table.looked_at.LookedAt.{LookedAt}
-use Rattle.lock_server.specs.Lacking.{IsFirstLacking, IsFirstPartLacking}
-use Rattle.lock_server.specs.LookedAt.{NotesLook, looked_modes}
-use Rattle.lock_server.specs.Settling.{IsAtLeast}
+use Rattle.lock_server.proofs.Common.{ℕ, ◌≡◌, ◌-◌, ◌<◌, ◌∙◌, inl, inr, sym, ap, subst, arith, Option, Some, None, ◌↔◌, UpdatesBy, get, Bor, option_copied, nat_cmp, cases_eq, Mode, Span, RangeList, modes_of, Covers, HeldConflicts, IsByteRange, Modes, modes_in_list, LookedAt, IsFirstPartLacking, looked_modes, IsAtLeast}
+use Rattle.range_core.specs.Changes.{SetsMode, modes_with}
+use Rattle.range_core.specs.Ranges.{IsFirstHit}
+use Rattle.lock_server.specs.Lacking.{IsFirstLacking}
+use Rattle.lock_server.specs.LookedAt.{NotesLook}
 use Rattle.lock_server.proofs.TicketLemmas.{is_at-other}
 
 pub found_looked : (looked : LookedAt) (file : ℕ) (found : Option (Bor RangeList)) (list : Bor RangeList)

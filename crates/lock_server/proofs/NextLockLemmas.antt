@@ -1,10 +1,6 @@
 -- The first byte lock from an owner's byte on, where the owners are gone through one after another: for `LockFile::next_lock`.
-use Rattle.std.proofs.Common.{ℕ, ◌≡◌, ◌+◌, ◌<◌, ◌≤◌, ◌∙◌, inl, inr, sym, subst, arith, Some, None, [], ◌∷◌}
-use Rattle.std.proofs.lemmas.Bool.{cases_lt}
-use Rattle.range_core.specs.Ranges.{IsRun}
-use Rattle.lock_server.specs.declared.Lock.{Lock}
-use Rattle.lock_server.specs.Files.{FileState}
-use Rattle.lock_server.specs.Listing.{BeginBefore, EndsBefore, IsByteLock, IsEarlier, IsFirstFrom, IsFirstRunFrom, lock_place}
+use Rattle.lock_server.proofs.Common.{ℕ, ◌≡◌, ◌+◌, ◌<◌, ◌≤◌, ◌∙◌, inl, inr, sym, subst, arith, Some, None, [], ◌∷◌, cases_lt, IsRun, Lock, FileState, EndsBefore, IsByteLock, IsEarlier, IsFirstFrom, lock_place}
+use Rattle.lock_server.specs.Listing.{BeginBefore, IsFirstRunFrom}
 
 -- a byte lock is of an owner that has a mode on some byte
 no_lock : (F : FileState) (lock : Lock) → ((byte : ℕ) → F.bytes lock.owner byte ≡ None) → ¬ IsByteLock F lock

@@ -1,11 +1,7 @@
 -- Notes that are taken as a server has them: for `Parts::openings`.
-use Rattle.std.proofs.Common.{ℕ, ◌≡◌, ◌≢◌, ◌∙◌, ◌<◌, ◌≤◌, ◌+◌, sym, ap, subst, refl, arith, inl, inr, Option, Some, None, List, get_or, length}
-use Rattle.std.proofs.lemmas.Bool.{cases_eq}
+use Rattle.lock_server.proofs.Common.{ℕ, ◌≡◌, ◌≢◌, ◌∙◌, ◌<◌, ◌≤◌, ◌+◌, sym, ap, subst, refl, arith, inl, inr, Option, Some, None, List, get_or, length, cases_eq, AreNotesOf, SameOpenings, SeesOn, through_at}
 use Rattle.lock_server.specs.declared.import.parts.Note.{Note}
 use Rattle.lock_server.specs.declared.openings.Openings.{Openings}
-use Rattle.lock_server.specs.Importing.{AreNotesOf}
-use Rattle.lock_server.specs.Openings.{SameOpenings, SeesOn}
-use Rattle.lock_server.specs.OpeningsView.{through_at}
 
 -- where these notes are taken, the openings are those of the server, and elsewhere there is none
 pub record AreTaken (through : ℕ → ℕ → Option ℕ) (notes : List Note) (place : ℕ) (now : ℕ → ℕ → Option ℕ) : Type 0 where

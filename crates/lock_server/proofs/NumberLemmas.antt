@@ -1,16 +1,10 @@
 -- Byte locks by owner's number and by owner are the same locks where no process has one: for `LockFile` and `Pending::is_blocked_by_lock`.
-use Rattle.std.proofs.Common.{ℕ, ◌≡◌, sym, refl, subst}
-use Rattle.range_core.specs.declared.Mode.{Mode}
-use Rattle.range_core.specs.declared.Span.{Span}
+use Rattle.lock_server.proofs.Common.{ℕ, ◌≡◌, sym, refl, subst, Mode, Span, Owner, Process, Description, byte_modes_of, ByteModes, LockFile, by_owner, locks_on, file_state}
 use Rattle.lock_book.specs.declared.Blocker.{Blocker}
-use Rattle.lock_book.specs.declared.Owner.{Owner}
-use Rattle.lock_book.specs.declared.Owner.TheVariants.{Process, Description}
-use Rattle.lock_book.specs.Books.{byte_modes_of, flock_modes_of}
-use Rattle.lock_book.specs.Conflicts.{ByteModes, IsFirstBlocker}
+use Rattle.lock_book.specs.Books.{flock_modes_of}
+use Rattle.lock_book.specs.Conflicts.{IsFirstBlocker}
 use Rattle.wait_core.specs.Locks.{Locks}
-use Rattle.lock_server.specs.declared.file.LockFile.{LockFile}
-use Rattle.lock_server.specs.Files.{by_owner, locks_on}
-use Rattle.lock_server.specs.FileView.{by_number, file_state}
+use Rattle.lock_server.specs.FileView.{by_number}
 use Rattle.lock_server.specs.Locks.{AreOfNumbers, as_blocker}
 
 at_each : (modes : ByteModes) → AreOfNumbers modes → (owner : Owner) (byte : ℕ) → by_owner (by_number modes) owner byte ≡ modes owner byte

@@ -1,9 +1,6 @@
 -- Maps of owners without a pair: for the openings' `is_empty`.
-use Rattle.std.proofs.lemmas.Grind.{common_steps}
-use Rattle.std.proofs.Common.{ℕ, ◌≡◌, ◌∙◌, sym, ap, refl, arith, cond, true, Bool, Some, None, List, [], ◌∷◌, length}
-use Rattle.std.specs.BTreeMap.{BTreeMap, get, is_at}
-use Rattle.std.specs.Map.{lookup}
-use Rattle.std.specs.Ordering.{nat_cmp}
+use Rattle.lock_server.proofs.Common.{common_steps, ℕ, ◌≡◌, ◌∙◌, sym, ap, refl, arith, cond, true, Bool, Some, None, List, [], ◌∷◌, length, get, is_at, lookup, nat_cmp}
+use Rattle.std.specs.BTreeMap.{BTreeMap}
 
 -- in a map without a pair no key has a value
 no_value : (pairs : List (ℕ × ℕ)) → length pairs ≡ 0 → (key : ℕ) → lookup (is_at (nat_cmp key)) pairs ≡ None

@@ -1,24 +1,12 @@
 -- The lists of a state's inventory are in their order: for `LockServer::import`.
-use Rattle.std.proofs.Common.{ℕ, ◌≡◌, ◌∙◌, ◌<◌, ◌+◌, sym, ap, subst, arith, inl, inr, All, Any, Option, Some, List, [], ◌∷◌, get_or, map}
-use Rattle.std.specs.Prelude.{◌≢◌, AllPairs, Contains, IsTrue}
-use Rattle.std.proofs.lemmas.Bool.{cases_lt}
-use Rattle.std.proofs.lemmas.List.{length-map}
-use Rattle.std.proofs.lemmas.List.Elements.{Contains-get_or}
+use Rattle.lock_server.proofs.Common.{ℕ, ◌≡◌, ◌∙◌, ◌<◌, ◌+◌, sym, ap, subst, arith, inl, inr, All, Any, Option, Some, List, [], ◌∷◌, get_or, map, AllPairs, IsTrue, cases_lt, length-map, Contains-get_or}
+use Rattle.lock_server.proofs.Common.{Mode, Span, Covers, IsRun, Modes, FlockLock, Lock, FilePart, Parts, FileState, AreByteLocks, AreFiles, AreJust, IsInventory, Note, SaysFile, entry_place, note_place, IsByteLock, IsEarlier, IsFlockLock, flock_place, lock_place, inventory_of, note_of, State}
+use Rattle.std.specs.Prelude.{◌≢◌, Contains}
 use Rattle.std.proofs.Math.ListN.{get_or-map}
-use Rattle.range_core.specs.declared.Mode.{Mode}
-use Rattle.range_core.specs.declared.Span.{Span}
-use Rattle.range_core.specs.Ranges.{Covers, IsApart, IsRun, Modes}
-use Rattle.lock_server.specs.declared.FlockLock.{FlockLock}
-use Rattle.lock_server.specs.declared.Lock.{Lock}
-use Rattle.lock_server.specs.declared.import.parts.FilePart.{FilePart}
+use Rattle.range_core.specs.Ranges.{IsApart}
 use Rattle.lock_server.specs.declared.import.parts.Note.{Note as NotePart}
-use Rattle.lock_server.specs.declared.import.parts.Parts.{Parts}
-use Rattle.lock_server.specs.Files.{FileState}
-use Rattle.lock_server.specs.Inventory.{AreByteLocks, AreFiles, AreJust, IsInventory, Note, SaysFile, entry_place, note_place}
-use Rattle.lock_server.specs.Listing.{IsByteLock, IsEarlier, IsFlockLock, flock_place, lock_place}
 use Rattle.lock_server.specs.Ordered.{AreInOrder, IsInOrder, IsLockBefore, IsNoteBefore}
-use Rattle.lock_server.specs.Reading.{entry_of, inventory_of, note_of}
-use Rattle.lock_server.specs.States.{State}
+use Rattle.lock_server.specs.Reading.{entry_of}
 use Rattle.lock_server.proofs.JustLemmas.{All-from}
 use Rattle.lock_server.proofs.ListLemmas.{Any-cons, Any-here, Any-nil, Any-there}
 

@@ -1,25 +1,9 @@
 -- What the parts of a call come to is determined: for `replicas_agree`. Two outcomes of one state are one, as an equation.
-use Rattle.std.proofs.Common.{arith, ℕ, ◌≡◌, ◌≢◌, ◌∙◌, inl, inr, sym, ap, subst, refl, true, false, Bool, Option, Some, None, List, [], ◌∷◌, ◌++◌, Any, append_assoc, append-nil, length}
-use Rattle.std.proofs.lemmas.Grind.{common_steps}
-use Rattle.std.proofs.lemmas.Bool.{cases_eq}
-use Rattle.std.specs.Prelude.{IsTrue}
-use Rattle.range_core.specs.declared.Mode.{Mode}
-use Rattle.range_core.specs.declared.Span.{Span}
+use Rattle.lock_server.proofs.Common.{arith, ℕ, ◌≡◌, ◌≢◌, ◌∙◌, inl, inr, sym, ap, subst, refl, true, false, Bool, Option, Some, None, List, [], ◌∷◌, ◌++◌, Any, append_assoc, append-nil, length, common_steps, cases_eq, IsTrue}
+use Rattle.lock_server.proofs.Common.{Mode, Span, Family, Bytes, Whole, Policy, Answer, Conversion, Stepwise, Atomic, Pending, Rules, WaitAnswer, FetchComesTo, FlockFrom, FlockWaitComesTo, FlockWaitFrom, Releases, ReleasesOn, Suspends, WaitAtOnceComesTo, WaitComesTo, WaitConversionComesTo, byte_request, flock_request, given_by, no_ticket, FileState, GetsLock, SameFile, SameLocks, SetsLock, Unlocks, owners_of, tickets_of, AllBlocked, Grants, HasAlready, IsSettled, IsWaitBlocked, Settles, Crosses, HasDetected, IsDetectedOf, SameState, SettlesFile, State}
 use Rattle.range_core.specs.Facts.{MatchFact}
-use Rattle.wait_core.specs.declared.Family.{Family}
-use Rattle.wait_core.specs.declared.Family.TheVariants.{Bytes, Whole}
-use Rattle.wait_core.specs.declared.Policy.{Policy}
-use Rattle.lock_server.specs.declared.Answer.{Answer}
-use Rattle.lock_server.specs.declared.Conversion.{Conversion}
-use Rattle.lock_server.specs.declared.Conversion.TheVariants.{Stepwise, Atomic}
-use Rattle.lock_server.specs.declared.Pending.{Pending}
-use Rattle.lock_server.specs.declared.Rules.{Rules}
-use Rattle.lock_server.specs.declared.WaitAnswer.{WaitAnswer}
-use Rattle.lock_server.specs.Calls.{Changes, ConversionComesTo, FetchComesTo, FlockFrom, FlockOpComesTo, FlockWaitComesTo, FlockWaitFrom, Releases, ReleasesOn, SetComesTo, Suspends, TestAtOnceComesTo, TestComesTo, WaitAtOnceComesTo, WaitComesTo, WaitConversionComesTo, byte_request, flock_request, given_by, no_ticket}
-use Rattle.lock_server.specs.Files.{FileState, GetsLock, SameFile, SameLocks, SetsLock, Unlocks}
-use Rattle.lock_server.specs.Pendings.{owners_of, tickets_of}
-use Rattle.lock_server.specs.Settling.{AllBlocked, Grants, HasAlready, IsNext, IsSettled, IsWaitBlocked, Settles}
-use Rattle.lock_server.specs.States.{Crosses, HasDetected, IsDetectedOf, SameState, SettlesFile, State}
+use Rattle.lock_server.specs.Calls.{Changes, ConversionComesTo, FlockOpComesTo, SetComesTo, TestAtOnceComesTo, TestComesTo}
+use Rattle.lock_server.specs.Settling.{IsNext}
 use Rattle.lock_server.proofs.StateLemmas.{SameFile-itself, file_from_same, state_from_same}
 
 -- the same choice is made twice, and both ways lead to R

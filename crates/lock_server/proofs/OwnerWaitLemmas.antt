@@ -1,12 +1,7 @@
 -- Waits of owners, of one wait more and of one file more: for `LockFile::next_wait` and `Table::next_wait`.
-use Rattle.std.proofs.Common.{ℕ, ◌≡◌, ◌+◌, ◌<◌, ◌≤◌, ◌∙◌, ◌⊎◌, inl, inr, sym, ap, subst, arith, append-nil, Option, List, [], ◌∷◌, ◌++◌}
+use Rattle.lock_server.proofs.Common.{ℕ, ◌≡◌, ◌+◌, ◌<◌, ◌≤◌, ◌∙◌, ◌⊎◌, inl, inr, sym, ap, subst, arith, append-nil, Option, List, [], ◌∷◌, ◌++◌, cases_lt, OwnerWait, Pending, SameFile, untouched, IsNextFrom, IsWaitUpTo, number_behind, wait_place, State}
 use Rattle.std.specs.Prelude.{Any}
-use Rattle.std.proofs.lemmas.Bool.{cases_lt}
-use Rattle.lock_server.specs.declared.OwnerWait.{OwnerWait}
-use Rattle.lock_server.specs.declared.Pending.{Pending}
-use Rattle.lock_server.specs.Files.{SameFile, untouched}
-use Rattle.lock_server.specs.Listing.{IsEarlierOf, IsNextFrom, IsWaitAmong, IsWaitUpTo, number_behind, wait_place}
-use Rattle.lock_server.specs.States.{State}
+use Rattle.lock_server.specs.Listing.{IsEarlierOf, IsWaitAmong}
 use Rattle.lock_server.proofs.LeaveLemmas.{Any-at, Any-with}
 use Rattle.lock_server.proofs.ListLemmas.{Any-cons, Any-here, Any-nil, Any-there}
 use Rattle.lock_server.proofs.PlaceLemmas.{next_as_before, next_joined}

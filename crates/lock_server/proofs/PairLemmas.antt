@@ -1,16 +1,10 @@
 -- Pairs of an owner and a file, in order: for the holdings.
-use Rattle.std.proofs.Common.{arith, ℕ, ◌≡◌, ◌≢◌, ◌-◌, ◌^◌, ◌<◌, ◌≤◌, ◌∙◌, inl, inr, sym, ap, refl, subst, true, false, Bool, Option, Some, None}
-use Rattle.std.specs.Prelude.{IsTrue}
-use Rattle.std.proofs.lemmas.Bool.{cases_eq, cases_lt}
-use Rattle.std.proofs.lemmas.Bool.Decides.{nat_tests}
-use Rattle.std.specs.BTreeMap.{is_at}
-use Rattle.std.specs.BTreeMap.Range.{IsFromStart, IsLeBy, IsLtBy}
-use Rattle.std.specs.Ordering.{is_eq, is_gt, nat_cmp, ordering_then}
+use Rattle.lock_server.proofs.Common.{arith, ℕ, ◌≡◌, ◌≢◌, ◌-◌, ◌^◌, ◌<◌, ◌≤◌, ◌∙◌, inl, inr, sym, ap, refl, subst, true, false, Bool, Option, Some, None, IsTrue, cases_eq, cases_lt, nat_tests, is_at, IsFromStart, nat_cmp, is_within, pair_cmp, number_behind}
+use Rattle.std.specs.BTreeMap.Range.{IsLeBy, IsLtBy}
+use Rattle.std.specs.Ordering.{is_eq, is_gt, ordering_then}
 use Rattle.std.specs.declared.cmp.Ordering.{Ordering}
 use Rattle.std.specs.declared.cmp.Ordering.TheVariants.{Less, Equal, Greater}
-use Rattle.lock_server.specs.Clients.{is_within}
-use Rattle.lock_server.specs.HoldingsView.{behind, behind_owner, pair_cmp}
-use Rattle.lock_server.specs.Listing.{number_behind}
+use Rattle.lock_server.specs.HoldingsView.{behind, behind_owner}
 use Rattle.lock_server.specs.OpeningsView.{IsAbove}
 
 less : (x y : ℕ) → x < y → nat_cmp x y ≡ Less

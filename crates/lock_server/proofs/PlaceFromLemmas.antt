@@ -1,8 +1,6 @@
 -- The first place of what is asked for: for `LockFile::first_of`, `place_of`, `place_leaving`, `next_conflicting` and what asks these.
-use Rattle.std.proofs.Common.{◌≡◌, ℕ, ◌<◌, ◌≤◌, ◌∙◌, Bool, true, false, Option, Some, None, List, [], ◌∷◌, All, Any, take, get_or, refl, sym, subst, arith, zero, suc}
-use Rattle.std.specs.Prelude.{◌↔◌, IsTrue, is_some, slice_get}
-use Rattle.std.proofs.lemmas.Option.{slice_get_within, slice_get-get_or, get_or_from_slice_get}
-use Rattle.arrival_list.specs.Places.{IsPlaceFrom, NonePassesFrom}
+use Rattle.lock_server.proofs.Common.{◌≡◌, ℕ, ◌<◌, ◌≤◌, ◌∙◌, Bool, true, false, Option, Some, None, List, [], ◌∷◌, All, Any, take, get_or, refl, sym, subst, arith, zero, suc, ◌↔◌, IsTrue, is_some, slice_get, slice_get_within, slice_get-get_or, get_or_from_slice_get, IsPlaceFrom}
+use Rattle.arrival_list.specs.Places.{NonePassesFrom}
 use Rattle.lock_server.proofs.GatheredOwnerLemmas.{Any-from_place, Any-place}
 
 -- some item passes just where the first place is told

@@ -1,9 +1,7 @@
 -- The order of places, and the first thing that is listed from one on: for `LockFile::next_wait`, `Table::next_wait` and the law on
 -- listings.
-use Rattle.std.proofs.Common.{ℕ, ◌≡◌, ◌∙◌, ◌⊎◌, inl, inr, refl, sym, subst, arith, Option, Some, None, List, [], ◌∷◌, length}
-use Rattle.std.proofs.lemmas.Bool.{cases_lt}
-use Rattle.lock_server.specs.declared.OwnerWait.{OwnerWait}
-use Rattle.lock_server.specs.Listing.{EndsBefore, IsEarlier, IsEarlierOf, IsFirstFrom, IsNextFrom, wait_place}
+use Rattle.lock_server.proofs.Common.{ℕ, ◌≡◌, ◌∙◌, ◌⊎◌, inl, inr, refl, sym, subst, arith, Option, Some, None, List, [], ◌∷◌, length, cases_lt, OwnerWait, EndsBefore, IsEarlier, IsFirstFrom, IsNextFrom, wait_place}
+use Rattle.lock_server.specs.Listing.{IsEarlierOf}
 
 -- no place comes before itself
 pub IsEarlier-irreflexive : (place : List ℕ) → ¬ IsEarlier place place

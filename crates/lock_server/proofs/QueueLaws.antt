@@ -1,29 +1,8 @@
 -- That the queue policy keeps the order of arrival: for `queue_is_kept`.
-use Rattle.std.proofs.Common.{ℕ, ◌≡◌, ◌≢◌, inl, inr, refl, sym, ap, subst, Option, Some, None, List, [], ◌∷◌, ◌++◌, Any}
-use Rattle.std.proofs.Math.Logic.{∥∥₁_elim}
-use mathlib.Core.HLevel.{⊥_prop}
-use Rattle.range_core.specs.declared.Mode.{Mode}
-use Rattle.range_core.specs.declared.Mode.TheVariants.{Read, Write}
-use Rattle.range_core.specs.Ranges.{Conflict, HeldConflicts}
-use Rattle.lock_book.specs.declared.Owner.{Owner}
-use Rattle.lock_book.specs.declared.Owner.TheVariants.{Process, Description}
-use Rattle.wait_core.specs.declared.Family.{Family}
-use Rattle.wait_core.specs.declared.Family.TheVariants.{Bytes, Whole}
-use Rattle.wait_core.specs.declared.Policy.{Policy}
-use Rattle.wait_core.specs.declared.Policy.TheVariants.{Held, Queue}
-use Rattle.wait_core.specs.Blocking.{IsBlockedIn}
-use Rattle.lock_server.specs.declared.Pending.{Pending}
+use Rattle.lock_server.proofs.Common.{ℕ, ◌≡◌, ◌≢◌, inl, inr, refl, sym, ap, subst, Option, Some, None, List, [], ◌∷◌, ◌++◌, Any, ∥∥₁_elim, ⊥_prop}
+use Rattle.lock_server.proofs.Common.{Mode, Read, Write, Conflict, HeldConflicts, Owner, Process, Description, Family, Bytes, Whole, Policy, Held, Queue, IsBlockedIn, Pending, WaitAtOnceComesTo, WaitComesTo, LockServer, FileState, by_owner, locks_on, as_wait, IsCompatible, state_of, table_state, AllBlocked, HasAlready, HasIn, IsAtLeast, IsBlockedUnless, IsWaitBlocked, PendingsConflict, State}
 use Rattle.lock_server.specs.declared.WaitAnswer.TheVariants.{Done, Waits, Deadlock}
-use Rattle.lock_server.specs.Calls.{WaitAtOnceComesTo, WaitComesTo}
-use Rattle.lock_server.specs.declared.server.LockServer.{LockServer}
-use Rattle.lock_server.specs.Files.{FileState, by_owner, locks_on}
-use Rattle.lock_server.specs.Pendings.{as_wait}
-use Rattle.lock_server.specs.Safety.{IsCompatible}
-use Rattle.lock_server.specs.ServerView.{state_of}
-use Rattle.lock_server.specs.TableView.{table_state}
 use Rattle.lock_server.specs.Queueing.{QueueIsKept}
-use Rattle.lock_server.specs.Settling.{AllBlocked, HasAlready, HasIn, IsAtLeast, IsBlockedUnless, IsWaitBlocked, PendingsConflict}
-use Rattle.lock_server.specs.States.{State}
 use Rattle.lock_server.proofs.OutcomeLaws.{blocked_at}
 
 -- what an owner has is decided, byte by byte

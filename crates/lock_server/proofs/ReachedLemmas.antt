@@ -1,28 +1,11 @@
 -- The owners that are put behind those that were reached: for `add_going_on`, `add_steps` of a table, `would_cycle`.
-use Rattle.std.proofs.lemmas.Grind.{common_steps}
-use Rattle.std.proofs.Common.{ℕ, ◌≡◌, ◌≢◌, ◌==◌, ◌+◌, ◌<◌, ◌≤◌, ◌∙◌, inl, inr, sym, ap, refl, subst, arith, suc, cond, Bool, true, false, Some, None, List, [], ◌∷◌, ◌++◌, Contains, length, get_or}
-use Rattle.std.specs.Prelude.{◌↔◌, ◌&&◌, not, IsTrue, slice_get}
-use Rattle.std.specs.List.{list_any}
-use Rattle.std.proofs.lemmas.Bool.{cases_lt, cases_eq, eqb-true, eq-eqb, ne_eqb}
-use Rattle.std.proofs.lemmas.List.{append_assoc, length-append}
-use Rattle.std.proofs.lemmas.List.Elements.{Contains-append_left, Contains-append_cases, Contains-push, Contains-push_cases}
-use Rattle.std.proofs.lemmas.List.Sums.{sum_by-cons}
+use Rattle.lock_server.proofs.Common.{common_steps, ℕ, ◌≡◌, ◌≢◌, ◌==◌, ◌+◌, ◌<◌, ◌≤◌, ◌∙◌, inl, inr, sym, ap, refl, subst, arith, suc, cond, Bool, true, false, Some, None, List, [], ◌∷◌, ◌++◌, Contains, length, get_or, ◌↔◌, ◌&&◌, IsTrue, slice_get, list_any, cases_lt, cases_eq, eqb-true, eq-eqb, ne_eqb, length-append, Contains-append_left, Contains-append_cases, Contains-push, Contains-push_cases, sum_by-cons, same_Some, slice_get-get_or, slice_get_cases, slice_get_within, get_or_from_slice_get}
+use Rattle.lock_server.proofs.Common.{Family, Bytes, Whole, Policy, Pending, Files, Table, Tickets, Waiters, BlocksIn, IsBlockedByOwner, WaitsFor, WaitsForOn, FileState, untouched, IsIndexed, detected_waits, state_in, entry_of, table_state, AddsGoingOn, AddsOwners, IsGoingOn, files_of, times}
+use Rattle.std.specs.Prelude.{not}
+use Rattle.std.proofs.lemmas.List.{append_assoc}
 use Rattle.std.proofs.lemmas.Map.Views.{Contains-from_any}
-use Rattle.std.proofs.lemmas.Option.{same_Some, slice_get-get_or, slice_get_cases, slice_get_within, get_or_from_slice_get}
-use Rattle.wait_core.specs.declared.Family.{Family}
-use Rattle.wait_core.specs.declared.Family.TheVariants.{Bytes, Whole}
-use Rattle.wait_core.specs.declared.Policy.{Policy}
-use Rattle.lock_server.specs.declared.Pending.{Pending}
-use Rattle.lock_server.specs.declared.files.Files.{Files}
-use Rattle.lock_server.specs.declared.table.Table.{Table}
-use Rattle.lock_server.specs.declared.tickets.Tickets.{Tickets}
-use Rattle.lock_server.specs.declared.waiters.Waiters.{Waiters}
-use Rattle.lock_server.specs.Deadlock.{BlocksIn, ClosesCycle, IsBlockedByOwner, WaitsFor, WaitsForOn}
-use Rattle.lock_server.specs.Files.{FileState, untouched}
-use Rattle.lock_server.specs.Index.{IsIndexed, detected_waits, state_in}
-use Rattle.lock_server.specs.TableView.{entry_of, table_state}
-use Rattle.lock_server.specs.Blockers.{AddsGoingOn, AddsOnce, AddsOwners, IsGoingOn, SomeLeadsTo}
-use Rattle.lock_server.specs.WaitersView.{files_of, times}
+use Rattle.lock_server.specs.Deadlock.{ClosesCycle}
+use Rattle.lock_server.specs.Blockers.{AddsOnce, SomeLeadsTo}
 use Rattle.lock_server.proofs.ChainLemmas.{first_step}
 use Rattle.lock_server.proofs.GatheredOwnerLemmas.{IsGivenBefore, gathered_all}
 use Rattle.lock_server.proofs.LeaveLemmas.{counted_with}

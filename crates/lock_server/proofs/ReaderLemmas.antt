@@ -1,19 +1,15 @@
 -- Words that are read, whatever they tell: for `Reader` and `read`.
-use Rattle.std.proofs.Common.{ℕ, ◌≡◌, ◌∙◌, ◌<◌, ◌≤◌, ◌+◌, ◌*◌, ◌%◌, ◌^◌, sym, ap, subst, refl, arith, suc, All, List, [], ◌∷◌, ◌++◌, length, map, take, drop, append-nil, append_assoc}
-use Rattle.std.specs.Prelude.{Contains, Result, Ok, Err, IsErrAnd}
-use Rattle.std.specs.Int.{w64, to_le_bytes, from_le_bytes}
-use Rattle.std.specs.List.{flat_map}
+use Rattle.lock_server.proofs.Common.{ℕ, ◌≡◌, ◌∙◌, ◌<◌, ◌≤◌, ◌+◌, ◌*◌, ◌^◌, sym, ap, subst, refl, arith, suc, All, List, [], ◌∷◌, ◌++◌, length, map, take, drop, append-nil, append_assoc, Result, Ok, Err, w64, from_le_bytes, flat_map, length-append, map-append, Contains-append_right, file_words, flock_words, listed, lock_words, wait_words, FileEntry, itself, bytes_of}
+use Rattle.std.proofs.Common.{◌%◌}
+use Rattle.std.specs.Prelude.{Contains, IsErrAnd}
+use Rattle.std.specs.Int.{to_le_bytes}
 use Rattle.std.proofs.lemmas.Nat.{from_le_bytes-to_le_bytes_8}
-use Rattle.std.proofs.lemmas.List.{length-append, map-append}
-use Rattle.std.proofs.lemmas.List.Elements.{Contains-append_right}
 use Rattle.std.proofs.Math.Nat.{mul-suc, mul-zero}
 use Rattle.range_core.specs.declared.memory.Memory.{Memory as Wanting}
 use Rattle.lock_server.specs.declared.ImportFault.{ImportFault}
 use Rattle.lock_server.specs.declared.ImportFault.TheVariants.{Invalid, Memory}
-use Rattle.lock_server.specs.Bytes.{file_words, flock_words, listed, lock_words, wait_words}
-use Rattle.lock_server.specs.Inventory.{FileEntry}
-use Rattle.lock_server.specs.Reading.{Reads, Succeeds, itself}
-use Rattle.lock_server.specs.Words.{AreWords, bytes_of}
+use Rattle.lock_server.specs.Reading.{Reads, Succeeds}
+use Rattle.lock_server.specs.Words.{AreWords}
 use Rattle.lock_server.proofs.JustLemmas.{All-at, Contains-here}
 use Rattle.lock_server.proofs.WordLemmas.{length-bytes_of}
 

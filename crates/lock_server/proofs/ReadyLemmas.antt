@@ -1,21 +1,8 @@
 -- The first wait on a file that isn't blocked: for `LockFile::next_ready`.
-use Rattle.std.proofs.lemmas.Grind.{common_steps}
-use Rattle.std.proofs.Common.{ℕ, ◌≡◌, ◌+◌, ◌-◌, ◌<◌, ◌≤◌, ◌∙◌, true, false, None, zero, inl, inr, sym, subst, arith, append_assoc, append-nil, Some, List, [], ◌∷◌, ◌++◌, length, suc, take, drop}
-use Rattle.std.specs.Prelude.{slice_get}
-use Rattle.std.proofs.lemmas.Bool.{cases_lt}
-use Rattle.std.proofs.lemmas.List.{take_all, take_more, length-take-le}
-use Rattle.std.proofs.lemmas.Option.{slice_get_cases, slice_get_within}
-use Rattle.arrival_list.specs.Places.{IsPlaceFrom}
-use Rattle.wait_core.specs.declared.Policy.{Policy}
-use Rattle.lock_server.specs.declared.Pending.{Pending}
-use Rattle.lock_server.specs.declared.freed.Freed.{Freed}
-use Rattle.lock_server.specs.Asking.{is_among}
-use Rattle.lock_server.specs.Files.{FileState}
-use Rattle.lock_server.specs.Freed.{AreBlockedBut}
-use Rattle.lock_server.specs.Settling.{AllBlocked, IsSettled, IsWaitBlocked}
+use Rattle.lock_server.proofs.Common.{common_steps, ℕ, ◌≡◌, ◌+◌, ◌-◌, ◌<◌, ◌≤◌, ◌∙◌, true, false, None, zero, inl, inr, sym, subst, arith, append_assoc, append-nil, Some, List, [], ◌∷◌, ◌++◌, length, suc, take, drop, slice_get, cases_lt, take_all, take_more, length-take-le, slice_get_cases, slice_get_within}
+use Rattle.lock_server.proofs.Common.{IsPlaceFrom, Policy, Pending, Freed, is_among, FileState, AreBlockedBut, AllBlocked, IsSettled, IsWaitBlocked, IsReadyAt}
 use Rattle.lock_server.proofs.AskingLemmas.{among_test}
 use Rattle.lock_server.proofs.FreedLemmas.{blocked_unless_freed}
-use Rattle.lock_server.specs.Waiting.{IsReadyAt}
 use Rattle.lock_server.proofs.LeaveLemmas.{split_at}
 
 -- the waits before a place are blocked, and of the others all but those that may be freed

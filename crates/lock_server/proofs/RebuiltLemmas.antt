@@ -1,29 +1,8 @@
 -- Locks that are set from those of a state, and come to these: for `Parts::put_locks` and `Parts::table`.
-use Rattle.std.proofs.Common.{ℕ, ◌≡◌, ◌≢◌, ◌∙◌, sym, ap, subst, refl, arith, inl, inr, Bool, true, false, All, Any, Option, Some, None, List, [], ◌∷◌, map}
-use Rattle.std.specs.Prelude.{◌⊎◌, ◌==◌, ◌&&◌, if◌then◌else◌}
-use Rattle.std.proofs.lemmas.Bool.{cases_eq, eq-eqb}
-use Rattle.std.proofs.lemmas.Bool.Decides.{nat_tests}
-use Rattle.std.proofs.lemmas.List.Elements.{All-head, All-tail}
-use Rattle.range_core.specs.declared.Mode.{Mode}
-use Rattle.range_core.specs.declared.Span.{Span}
-use Rattle.range_core.specs.Changes.{is_covered}
-use Rattle.range_core.specs.Ranges.{Conflict, Covers, HeldConflicts}
-use Rattle.lock_book.specs.declared.Owner.{Owner}
-use Rattle.lock_book.specs.declared.Owner.TheVariants.{Process, Description}
+use Rattle.lock_server.proofs.Common.{ℕ, ◌≡◌, ◌≢◌, ◌∙◌, sym, ap, subst, refl, arith, inl, inr, Bool, true, false, All, Any, Option, Some, None, List, [], ◌∷◌, map, ◌&&◌, if◌then◌else◌, cases_eq, eq-eqb, nat_tests, All-head, All-tail}
+use Rattle.lock_server.proofs.Common.{Mode, Span, is_covered, Conflict, Covers, HeldConflicts, Owner, Process, Description, Family, Bytes, Whole, IsBlockedIn, Pending, FilePart, SetsOn, FileState, SetsLock, by_owner, locks_on, SetsAll, SetsOnFile, as_wait, SetsEach, flock_lock_request, lock_request, IsCompatible, IsHeldBack, State}
+use Rattle.std.specs.Prelude.{◌⊎◌, ◌==◌}
 use Rattle.lock_book.specs.Conflicts.{Blocks}
-use Rattle.wait_core.specs.declared.Family.{Family}
-use Rattle.wait_core.specs.declared.Family.TheVariants.{Bytes, Whole}
-use Rattle.wait_core.specs.Blocking.{IsBlockedIn}
-use Rattle.lock_server.specs.declared.Pending.{Pending}
-use Rattle.lock_server.specs.declared.import.parts.FilePart.{FilePart}
-use Rattle.lock_server.specs.Calls.{SetsOn}
-use Rattle.lock_server.specs.Files.{FileState, SetsLock, by_owner, locks_on}
-use Rattle.lock_server.specs.Importing.{SetsAll, SetsOnFile}
-use Rattle.lock_server.specs.Pendings.{as_wait}
-use Rattle.lock_server.specs.Restoring.{SetsEach, flock_lock_request, lock_request}
-use Rattle.lock_server.specs.Safety.{IsCompatible}
-use Rattle.lock_server.specs.Settling.{IsHeldBack}
-use Rattle.lock_server.specs.States.{State}
 use Rattle.lock_server.proofs.ListLemmas.{Any-nil, Any-cons}
 use Rattle.lock_server.proofs.StateLemmas.{file_from_same, state_from_same}
 

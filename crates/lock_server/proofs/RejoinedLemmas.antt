@@ -1,19 +1,11 @@
 -- Waits and grants that are put as a state has them: for `Parts::put_waits`, `Parts::put_grants` and `Parts::table`.
-use Rattle.std.proofs.Common.{ℕ, ◌≡◌, ◌≢◌, ◌∙◌, ◌<◌, sym, ap, subst, refl, arith, inl, inr, Bool, true, false, All, Any, Some, List, [], ◌∷◌, ◌++◌, get_or, length, map, take, drop, append-nil, append_assoc}
-use Rattle.std.specs.Prelude.{◌⊎◌, AllPairs, Contains, IsTrue, slice_get}
-use Rattle.std.proofs.lemmas.Bool.{cases_eq}
-use Rattle.std.proofs.lemmas.List.{get_or-take, get_or_default, length-take, take-append-drop, take_all}
-use Rattle.std.proofs.lemmas.List.Elements.{All-cons, All-head, All-tail, Contains-append_left}
-use Rattle.std.proofs.lemmas.Option.{get_or_from_slice_get, slice_get_within}
-use Rattle.lock_server.specs.declared.Pending.{Pending}
-use Rattle.lock_server.specs.declared.import.parts.FilePart.{FilePart}
-use Rattle.lock_server.specs.Calls.{SetsOn}
-use Rattle.lock_server.specs.Inventory.{SaysFile}
+use Rattle.lock_server.proofs.Common.{ℕ, ◌≡◌, ◌≢◌, ◌∙◌, ◌<◌, sym, ap, subst, refl, arith, inl, inr, Bool, true, false, All, Any, Some, List, [], ◌∷◌, ◌++◌, get_or, length, map, take, drop, append-nil, append_assoc, AllPairs, IsTrue, slice_get, cases_eq, get_or_default, take-append-drop, take_all, All-cons, All-head, All-tail, Contains-append_left, get_or_from_slice_get, slice_get_within}
+use Rattle.lock_server.proofs.Common.{Pending, FilePart, SetsOn, SaysFile, JoinsAll, SetsAll, JoinsEach, SetsEach, flock_lock_request, lock_request, AreTicketsOnce, IsDetectedOf, SameState, State, opening}
+use Rattle.std.specs.Prelude.{◌⊎◌, Contains}
+use Rattle.std.proofs.lemmas.List.{get_or-take, length-take}
 use Rattle.lock_server.specs.Reading.{entry_of}
-use Rattle.lock_server.specs.Importing.{AreFilesOf, HasLocksAlone, HasWaitsOf, JoinsAll, SetsAll}
-use Rattle.lock_server.specs.Restoring.{JoinsBefore, JoinsEach, QueuesBefore, SetsEach, flock_lock_request, lock_request}
-use Rattle.lock_server.specs.Safety.{AreTicketsOnce}
-use Rattle.lock_server.specs.States.{IsDetectedOf, SameState, State, opening}
+use Rattle.lock_server.specs.Importing.{AreFilesOf, HasLocksAlone, HasWaitsOf}
+use Rattle.lock_server.specs.Restoring.{JoinsBefore, QueuesBefore}
 use Rattle.lock_server.proofs.JustLemmas.{All-at, AllPairs-head, AllPairs-tail, Contains-cons, Contains-here, Contains-there, Contains-nil}
 use Rattle.lock_server.proofs.ListLemmas.{Any-nil}
 use Rattle.lock_server.proofs.StateLemmas.{state_from_same}

@@ -1,30 +1,12 @@
 -- The table of the parts of a state's export is in that state: for `Parts::table`.
-use Rattle.std.proofs.Common.{ℕ, ◌≡◌, ◌≢◌, ◌∙◌, ◌<◌, sym, ap, subst, refl, arith, inl, inr, true, false, All, Any, Option, Some, None, List, [], ◌∷◌, ◌++◌, get_or, length, map, take}
-use Rattle.std.specs.Prelude.{◌==◌, ◌&&◌, Contains}
-use Rattle.std.proofs.lemmas.Bool.{cases_eq, eq-eqb, eqb-true}
-use Rattle.std.proofs.lemmas.Bool.Decides.{nat_tests}
-use Rattle.std.proofs.lemmas.List.{length-map}
+use Rattle.lock_server.proofs.Common.{ℕ, ◌≡◌, ◌≢◌, ◌∙◌, ◌<◌, sym, ap, subst, refl, arith, inl, inr, true, false, All, Any, Option, Some, None, List, [], ◌∷◌, ◌++◌, get_or, length, map, take, ◌&&◌, cases_eq, eq-eqb, eqb-true, nat_tests, length-map, get_or_from_slice_get, slice_get_within}
+use Rattle.lock_server.proofs.Common.{Mode, Span, is_covered, Covers, FlockLock, Lock, Pending, FilePart, Parts, FileState, SameFile, SameLocks, AreOf, JoinsAll, SetsAll, SaysFile, IsByteLock, IsFlockLock, CrossesEach, JoinsEach, QueuesEach, SetsEach, flock_lock_request, lock_request, IsCompatible, IsSettled, HasDetected, IsDetectedOf, SameState, State, opening}
+use Rattle.std.specs.Prelude.{◌==◌, Contains}
 use Rattle.std.proofs.lemmas.List.Elements.{All-map, All-take}
-use Rattle.std.proofs.lemmas.Option.{get_or_from_slice_get, slice_get_within}
 use Rattle.std.proofs.Math.ListN.{get_or-map}
-use Rattle.range_core.specs.declared.Mode.{Mode}
-use Rattle.range_core.specs.declared.Span.{Span}
-use Rattle.range_core.specs.Changes.{is_covered}
-use Rattle.range_core.specs.Ranges.{Covers}
-use Rattle.lock_server.specs.declared.FlockLock.{FlockLock}
-use Rattle.lock_server.specs.declared.Lock.{Lock}
-use Rattle.lock_server.specs.declared.Pending.{Pending}
-use Rattle.lock_server.specs.declared.import.parts.FilePart.{FilePart}
-use Rattle.lock_server.specs.declared.import.parts.Parts.{Parts}
-use Rattle.lock_server.specs.Files.{FileState, SameFile, SameLocks}
-use Rattle.lock_server.specs.Importing.{AreFilesOf, AreOf, HasLocksAlone, HasWaitsOf, JoinsAll, SetsAll}
-use Rattle.lock_server.specs.Inventory.{SaysFile}
-use Rattle.lock_server.specs.Listing.{IsByteLock, IsFlockLock}
+use Rattle.lock_server.specs.Importing.{AreFilesOf, HasLocksAlone, HasWaitsOf}
 use Rattle.lock_server.specs.Reading.{entry_of}
-use Rattle.lock_server.specs.Restoring.{AreCompatible, AreSettled, CrossesEach, JoinsEach, QueuesEach, SetsBefore, SetsEach, flock_lock_request, lock_request}
-use Rattle.lock_server.specs.Safety.{IsCompatible}
-use Rattle.lock_server.specs.Settling.{IsSettled}
-use Rattle.lock_server.specs.States.{HasDetected, IsDetectedOf, SameState, State, opening}
+use Rattle.lock_server.specs.Restoring.{AreCompatible, AreSettled, SetsBefore}
 use Rattle.lock_server.proofs.CompatibleLemmas.{hit}
 use Rattle.lock_server.proofs.ExportLaws.{flag_same}
 use Rattle.lock_server.proofs.JustLemmas.{All-at, All-from, Contains-nil}

@@ -1,19 +1,8 @@
 -- Locks, waits and grants that are put one after another: for `Table::restore_locks`, `Table::restore_waits` and others.
-use Rattle.std.proofs.Common.{ℕ, ◌≡◌, ◌∙◌, ◌<◌, ◌≤◌, ◌+◌, sym, ap, subst, Some, List, [], ◌∷◌, ◌++◌, Any, length, get_or, map, take, append-nil, append_assoc}
-use Rattle.std.proofs.lemmas.List.{map-append, take_all, take_more}
-use Rattle.range_core.specs.declared.Mode.{Mode}
-use Rattle.range_core.specs.declared.Span.{Span}
-use Rattle.range_core.specs.Ranges.{IsByteRange}
-use Rattle.wait_core.specs.declared.Policy.{Policy}
-use Rattle.lock_server.specs.declared.Pending.{Pending}
-use Rattle.lock_server.specs.declared.table.Table.{Table}
-use Rattle.lock_server.specs.Calls.{SetsOn, Suspends}
-use Rattle.lock_server.specs.Files.{FileState, SameFile, SetsBytes, SetsFlock, untouched}
-use Rattle.lock_server.specs.Restoring.{CrossesEach, JoinsEach, QueuesEach, SetsEach}
-use Rattle.lock_server.specs.Settling.{AllBlocked, IsHeldBack, IsSettled, IsWaitBlocked}
-use Rattle.lock_server.specs.States.{Crosses, IsDetectedOf, IsTaken, State}
-use Rattle.lock_server.specs.TableView.{IsSwept, table_state}
-use Rattle.lock_server.specs.Waiting.{IsReadyAt}
+use Rattle.lock_server.proofs.Common.{ℕ, ◌≡◌, ◌∙◌, ◌<◌, ◌≤◌, ◌+◌, sym, ap, subst, Some, List, [], ◌∷◌, ◌++◌, Any, length, get_or, map, take, append-nil, append_assoc, map-append, take_all, take_more}
+use Rattle.lock_server.proofs.Common.{Mode, Span, IsByteRange, Policy, Pending, Table, SetsOn, Suspends, FileState, SameFile, SetsBytes, SetsFlock, untouched, CrossesEach, JoinsEach, QueuesEach, SetsEach, AllBlocked, IsHeldBack, IsSettled, IsWaitBlocked, Crosses, IsDetectedOf, State, table_state, IsReadyAt}
+use Rattle.lock_server.specs.States.{IsTaken}
+use Rattle.lock_server.specs.TableView.{IsSwept}
 use Rattle.lock_server.proofs.SettleLemmas.{crosses_then}
 use Rattle.lock_server.proofs.StateLemmas.{SameFile-then, SameState-itself, file_from_same, state_from_same}
 use Rattle.lock_server.proofs.SweptLemmas.{bytes_set, flock_set}

@@ -1,22 +1,8 @@
 -- Who has neither room nor a place for a grant doesn't wait: for `LockFile::may_wait` and `LockFile::next_among`.
-use Rattle.std.proofs.Common.{◌≡◌, ◌≢◌, ℕ, ◌∙◌, Bool, true, false, ◌&&◌, ◌==◌, List, [], ◌∷◌, Any, length, refl, sym, ap, subst, cond, arith}
-use Rattle.std.specs.Prelude.{IsTrue, filter}
-use Rattle.std.proofs.lemmas.Bool.{eqb-true, eq-eqb}
-use Rattle.std.proofs.lemmas.List.Elements.{All-cons, All-nil}
-use Rattle.std.proofs.lemmas.Option.{get_or_from_slice_get, slice_get_within}
+use Rattle.lock_server.proofs.Common.{◌≡◌, ◌≢◌, ℕ, ◌∙◌, Bool, true, false, ◌==◌, List, [], ◌∷◌, Any, length, refl, sym, ap, subst, cond, arith, IsTrue, filter, eqb-true, eq-eqb, All-cons, All-nil, get_or_from_slice_get, slice_get_within, Description, Book, has_flock_place, room_in, Family, Bytes, Whole, Pending, Of, Reach, is_among, reaches, AreOfOthers, is_byte_wait, is_flock_wait, is_of_bytes, HasRoom}
+use Rattle.std.proofs.Common.{◌&&◌}
 use Rattle.arrival_list.specs.Places.{NonePassesFrom}
-use Rattle.lock_book.specs.declared.Owner.TheVariants.{Description}
-use Rattle.lock_book.specs.declared.book.Book.{Book}
-use Rattle.lock_book.specs.Books.{has_flock_place, room_in}
-use Rattle.wait_core.specs.declared.Family.{Family}
-use Rattle.wait_core.specs.declared.Family.TheVariants.{Bytes, Whole}
-use Rattle.lock_server.specs.declared.Pending.{Pending}
-use Rattle.lock_server.specs.declared.freed.Freed.TheVariants.{Of}
-use Rattle.lock_server.specs.declared.freed.Reach.{Reach}
-use Rattle.lock_server.specs.Asking.{is_among, reaches}
-use Rattle.lock_server.specs.Holding.{AreOfOthers}
-use Rattle.lock_server.specs.Pendings.{is_byte_wait, is_flock_wait, is_of_bytes, is_of_whole}
-use Rattle.lock_server.specs.Room.{HasRoom}
+use Rattle.lock_server.specs.Pendings.{is_of_whole}
 use Rattle.lock_server.proofs.ListLemmas.{Any-here, Any-there}
 
 -- no wait for byte locks, and none for a flock lock, of the owner is one for either

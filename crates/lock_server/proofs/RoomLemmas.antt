@@ -1,19 +1,10 @@
 -- The room of a file, and what keeps it: for `LockFile::give`, `LockFile::place_flock` and `LockFile::set_flock`.
-use Rattle.std.proofs.lemmas.Grind.{common_steps}
-use Rattle.std.proofs.Common.{ℕ, ◌≡◌, ◌+◌, ◌≤◌, ◌<◌, sym, refl, subst, arith, true, false, Bool, Option, Result, List, ◌∷◌, ◌++◌}
-use Rattle.std.specs.Prelude.{OnOk, OnErr, IsTrue, ◌||◌, ◌&&◌, ◌==◌}
-use Rattle.std.proofs.lemmas.Bool.{cases_eq, eq-eqb}
-use Rattle.range_core.specs.declared.Mode.{Mode}
-use Rattle.range_core.specs.declared.Span.{Span}
-use Rattle.lock_book.specs.declared.Owner.{Owner}
-use Rattle.lock_book.specs.declared.Owner.TheVariants.{Description}
-use Rattle.lock_book.specs.declared.book.Book.{Book}
-use Rattle.lock_book.specs.Books.{room_in, has_flock_place, ReservesFlock, SameBook, SetsFlock, SetsOwnerMode}
-use Rattle.wait_core.specs.declared.Family.{Family}
-use Rattle.wait_core.specs.declared.Family.TheVariants.{Bytes, Whole}
-use Rattle.lock_server.specs.declared.Pending.{Pending}
-use Rattle.lock_server.specs.Pendings.{is_of_bytes, is_of_whole, is_byte_wait, is_flock_wait}
-use Rattle.lock_server.specs.Room.{HasRoom, byte_waits}
+use Rattle.lock_server.proofs.Common.{common_steps, ℕ, ◌≡◌, ◌+◌, ◌≤◌, ◌<◌, sym, refl, subst, arith, true, false, Bool, Option, List, ◌∷◌, ◌++◌, OnOk, OnErr, IsTrue, ◌||◌, ◌&&◌, cases_eq, eq-eqb, Mode, Span, Owner, Description, Book, room_in, has_flock_place, Family, Bytes, Whole, Pending, is_of_bytes, is_byte_wait, is_flock_wait, HasRoom}
+use Rattle.std.proofs.Common.{Result}
+use Rattle.std.specs.Prelude.{◌==◌}
+use Rattle.lock_book.specs.Books.{ReservesFlock, SameBook, SetsFlock, SetsOwnerMode}
+use Rattle.lock_server.specs.Pendings.{is_of_whole}
+use Rattle.lock_server.specs.Room.{byte_waits}
 use Rattle.lock_server.proofs.LeaveLemmas.{counted_with, Any-with, Any-at}
 
 -- each owner has the room that it had at least, and the places that were kept still are

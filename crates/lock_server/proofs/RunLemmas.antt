@@ -1,13 +1,7 @@
 -- The first run from a byte on: for `run_from`.
-use Rattle.std.proofs.lemmas.Grind.{common_steps}
-use Rattle.std.proofs.Common.{ℕ, ◌≡◌, ◌<◌, ◌≤◌, ◌∙◌, ap, inl, inr, subst, arith, List, length, get_or}
+use Rattle.lock_server.proofs.Common.{common_steps, ℕ, ◌≡◌, ◌<◌, ◌≤◌, ◌∙◌, ap, inl, inr, subst, arith, List, length, get_or, get_or_default, cases_lt, Mode, Span, AreRuns, Covers, IsRun, Modes}
 use Rattle.std.specs.List.{AllWithin}
 use Rattle.std.specs.List.Sorted.{IsNonDecreasingBy}
-use Rattle.std.proofs.lemmas.List.{get_or_default}
-use Rattle.std.proofs.lemmas.Bool.{cases_lt}
-use Rattle.range_core.specs.declared.Mode.{Mode}
-use Rattle.range_core.specs.declared.Span.{Span}
-use Rattle.range_core.specs.Ranges.{AreRuns, Covers, IsRun, Modes}
 use Rattle.lock_server.specs.Listing.{BeginBefore, IsFirstRunFrom}
 
 -- the runs begin in order

@@ -1,15 +1,5 @@
 -- What holds between two calls holds after a client or a file is gone: for the server's `forget_owners` and `forget_file`.
-use Rattle.std.proofs.Common.{ℕ, zero, suc, ◌≡◌, ◌<◌, ◌≤◌, ◌∙◌, inl, inr, sym, subst, refl, arith, not, Bool, Some, None, List, [], ◌∷◌}
-use Rattle.std.proofs.lemmas.Bool.{cases_eq, cases_lt}
-use Rattle.wait_core.specs.declared.Policy.{Policy}
-use Rattle.lock_server.specs.declared.Pending.{Pending}
-use Rattle.lock_server.specs.Clients.{ForgetsFile, ForgetsOwners, SettlesBelow, Strips, StripsFile, is_within}
-use Rattle.lock_server.specs.Deadlock.{IsFreeOfCycles}
-use Rattle.lock_server.specs.Files.{FileState, SameFile, untouched}
-use Rattle.lock_server.specs.Pendings.{owners_of}
-use Rattle.lock_server.specs.Safety.{AreTicketsOnce, IsCompatible, IsSafe}
-use Rattle.lock_server.specs.Settling.{IsSettled, Settles}
-use Rattle.lock_server.specs.States.{SettlesFile, State}
+use Rattle.lock_server.proofs.Common.{ℕ, zero, suc, ◌≡◌, ◌<◌, ◌≤◌, ◌∙◌, inl, inr, sym, subst, refl, arith, not, Bool, Some, None, List, [], ◌∷◌, cases_eq, cases_lt, Policy, Pending, ForgetsFile, ForgetsOwners, SettlesBelow, Strips, StripsFile, is_within, IsFreeOfCycles, FileState, SameFile, untouched, owners_of, AreTicketsOnce, IsCompatible, IsSafe, IsSettled, Settles, SettlesFile, State}
 use Rattle.lock_server.proofs.CompatibleLemmas.{still_held}
 use Rattle.lock_server.proofs.SafeLemmas.{MovesFile, all_move_free, fewer_move, moves_free, moves_settled, safe_but, safe_moved, safe_with}
 use Rattle.lock_server.proofs.StateLemmas.{SameFile-then, file_from_same, state_from_same}

@@ -1,20 +1,8 @@
 -- What holds between any two calls holds after each: for the server's fact `safe`.
-use Rattle.std.proofs.Common.{rules, ℕ, ◌≡◌, ◌≢◌, ◌∙◌, ◌⊎◌, inl, inr, sym, subst, arith, Option, Some, None, List, [], ◌∷◌, ◌++◌, Any}
-use Rattle.std.proofs.lemmas.Grind.{common_steps}
+use Rattle.lock_server.proofs.Common.{rules, ℕ, ◌≡◌, ◌≢◌, ◌∙◌, ◌⊎◌, inl, inr, sym, subst, arith, Option, Some, None, List, [], ◌∷◌, ◌++◌, Any, common_steps, cases_eq, Contains-append_left, Contains-append_right}
+use Rattle.lock_server.proofs.Common.{Span, Family, Policy, Pending, owners_of, FileState, SameFile, GetsLock, IsHeldBack, IsSettled, Grants, Settles, State, SameState, IsDetectedOf, HasDetected, Crosses, SettlesFile, opening, WaitsFor, WaitsForOn, WaitsUncrossed, IsFreeOfCycles, IsCompatible, IsSafe, AreTicketsOnce, SetsOn, ReleasesOn, FetchComesTo, ForgetsOn}
 use Rattle.std.specs.Prelude.{Contains}
-use Rattle.std.proofs.lemmas.Bool.{cases_eq}
-use Rattle.std.proofs.lemmas.List.Elements.{Contains-append_left, Contains-append_right}
-use Rattle.range_core.specs.declared.Span.{Span}
-use Rattle.wait_core.specs.declared.Family.{Family}
-use Rattle.wait_core.specs.declared.Policy.{Policy}
-use Rattle.lock_server.specs.declared.Pending.{Pending}
-use Rattle.lock_server.specs.Pendings.{owners_of}
-use Rattle.lock_server.specs.Files.{FileState, SameFile, GetsLock}
-use Rattle.lock_server.specs.Settling.{IsHeldBack, IsSettled, Grants, Settles}
-use Rattle.lock_server.specs.States.{State, SameState, IsDetectedOf, HasDetected, Crosses, SettlesFile, opening}
-use Rattle.lock_server.specs.Deadlock.{WaitsFor, WaitsForOn, WaitsUncrossed, IsFreeOfCycles}
-use Rattle.lock_server.specs.Safety.{IsCompatible, IsSafe, AreTicketsOnce}
-use Rattle.lock_server.specs.Calls.{SetsOn, ReleasesOn, LeavesOn, FetchComesTo, ForgetsOn}
+use Rattle.lock_server.specs.Calls.{LeavesOn}
 use Rattle.lock_server.proofs.ListLemmas.{Any-nil, no_place}
 use Rattle.lock_server.proofs.LeaveLemmas.{Any-at}
 use Rattle.lock_server.proofs.ChainLemmas.{chain_weaker, first_step, free_on}

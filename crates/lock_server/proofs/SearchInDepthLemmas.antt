@@ -1,27 +1,15 @@
 -- The search in depth for a cycle: for `owner_on_cycle`.
-use Rattle.std.proofs.Common.{arith, ℕ, ◌≡◌, ◌≢◌, ◌∙◌, ◌==◌, ◌<◌, ◌≤◌, ◌+◌, inl, inr, sym, ap, subst, refl, true, false, List, [], ◌∷◌, ◌++◌, Contains, length, get_or, take, Option, Some, None}
-use Rattle.std.proofs.lemmas.Grind.{common_steps}
-use Rattle.std.specs.Prelude.{◌↔◌, AllPairs, IsSome, IsTrue, vec_len}
-use Rattle.std.specs.BTreeSet.{BTreeSet, Updates, btree_set_len, contains}
-use Rattle.std.specs.Ordering.{nat_cmp}
-use Rattle.std.proofs.lemmas.Bool.{cases_Bool, cases_eq, eq-eqb}
+use Rattle.lock_server.proofs.Common.{arith, ℕ, ◌≡◌, ◌≢◌, ◌∙◌, ◌==◌, ◌<◌, ◌≤◌, ◌+◌, inl, inr, sym, ap, subst, refl, true, false, List, [], ◌∷◌, ◌++◌, Contains, length, get_or, take, Option, Some, None, common_steps, ◌↔◌, AllPairs, IsSome, IsTrue, contains, nat_cmp, cases_Bool, cases_eq, eq-eqb, list_any, get_or_append_left, length-append, take_at, Contains-append_left, Contains-push, Contains-push_cases, all_pairs_push}
+use Rattle.lock_server.proofs.Common.{IsChain, Policy, IsFreeOfCycles, WaitsFor, WaitsUncrossed, IsAhead, IsSearchedInDepth, State, Table, table_state, crossed_of, files_of}
+use Rattle.std.specs.Prelude.{vec_len}
+use Rattle.std.specs.BTreeSet.{BTreeSet, Updates, btree_set_len}
 use Rattle.std.proofs.lemmas.List.Folds.{list_any-from_Any}
-use Rattle.std.specs.List.{list_any}
 use Rattle.std.specs.Option.{option_to_list}
-use Rattle.std.proofs.lemmas.List.{get_or_append_left, get_or_push, length-append, take_at}
-use Rattle.std.proofs.lemmas.List.Elements.{Contains-append_left, Contains-push, Contains-push_cases}
-use Rattle.std.proofs.lemmas.List.Quantifiers.{all_pairs_push}
-use Rattle.wait_core.specs.Cycles.{IsChain}
-use Rattle.wait_core.specs.declared.Policy.{Policy}
+use Rattle.std.proofs.lemmas.List.{get_or_push}
 use Rattle.lock_server.specs.declared.table.cycles.Search.{Search}
-use Rattle.lock_server.specs.Deadlock.{IsFreeOfCycles, WaitsFor, WaitsUncrossed}
 use Rattle.lock_server.specs.Restoring.{IsOnCycle}
-use Rattle.lock_server.specs.Searching.{ComesTo, GoesOn, IsAhead, IsSearchedInDepth}
-use Rattle.lock_server.specs.States.{State}
+use Rattle.lock_server.specs.Searching.{ComesTo, GoesOn}
 use Rattle.lock_server.proofs.ChainLemmas.{chain_append}
-use Rattle.lock_server.specs.declared.table.Table.{Table}
-use Rattle.lock_server.specs.TableView.{table_state}
-use Rattle.lock_server.specs.WaitersView.{crossed_of, files_of}
 use Rattle.lock_server.proofs.ReachedLemmas.{step_goes_on}
 use Rattle.lock_server.proofs.TicketLemmas.{is_at-other}
 

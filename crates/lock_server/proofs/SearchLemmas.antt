@@ -1,9 +1,5 @@
 -- The search along the owners that were reached: for `leads_to` and `would_cycle`.
-use Rattle.std.proofs.Common.{ℕ, ◌≡◌, ◌≢◌, ◌+◌, ◌<◌, ◌≤◌, ◌∙◌, ◌⊎◌, inl, inr, sym, ap, subst, arith, List, [], ◌∷◌, ◌++◌, Contains, length, get_or}
-use Rattle.std.proofs.lemmas.Bool.{cases_lt}
-use Rattle.std.proofs.lemmas.List.{get_or_append_left, get_or_default, length-append}
-use Rattle.std.proofs.lemmas.List.Elements.{Contains-append_left, Contains-get_or}
-use Rattle.wait_core.specs.Cycles.{IsChain}
+use Rattle.lock_server.proofs.Common.{ℕ, ◌≡◌, ◌≢◌, ◌+◌, ◌<◌, ◌≤◌, ◌∙◌, ◌⊎◌, inl, inr, sym, ap, subst, arith, List, [], ◌∷◌, ◌++◌, Contains, length, get_or, cases_lt, get_or_append_left, get_or_default, length-append, Contains-append_left, Contains-get_or, IsChain}
 use Rattle.lock_server.proofs.ChainLemmas.{IsOrLed, first_step, join_led}
 
 -- one step more

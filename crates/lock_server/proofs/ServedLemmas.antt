@@ -1,37 +1,14 @@
 -- What the parts of a server's export tell: for `LockServer::import`.
-use Rattle.std.proofs.Common.{ℕ, ◌≡◌, ◌∙◌, ◌≤◌, sym, ap, subst, refl, arith, inl, inr, Bool, true, false, All, Any, Option, Some, None, List, [], ◌∷◌, length, map}
-use Rattle.std.specs.Prelude.{◌≢◌, if◌then◌else◌, Contains, IsTrue}
+use Rattle.lock_server.proofs.Common.{ℕ, ◌≡◌, ◌∙◌, ◌≤◌, sym, ap, subst, refl, arith, inl, inr, Bool, true, false, All, Any, Option, Some, None, List, [], ◌∷◌, length, map, if◌then◌else◌, IsTrue, common_steps, All-head, All-tail}
+use Rattle.lock_server.proofs.Common.{Mode, Span, RangeList, is_covered, modes_of, Covers, IsByteRange, Owner, Description, Book, byte_modes_of, modes_in_list, FlockLock, Lock, Pending, LockFile, FilePart, Parts, Table, file_state, state_at, FileState, SameFile, untouched, AreNotesOf, AreOf, AreFiles, AreJust, FileEntry, IsInventory, Note, SaysFile, note_place, IsByteLock, MayLock, MayStand, MayWait, inventory_of, note_of, IsSafe, HasDetected, table_state}
+use Rattle.std.specs.Prelude.{◌≢◌, Contains}
 use Rattle.std.proofs.lemmas.Bool.{leb-true}
-use Rattle.std.proofs.lemmas.Grind.{common_steps}
-use Rattle.std.proofs.lemmas.List.Elements.{All-head, All-tail}
 use Rattle.range_core.specs.declared.TheConstants.{OFFMAX}
-use Rattle.range_core.specs.declared.Mode.{Mode}
-use Rattle.range_core.specs.declared.Span.{Span}
-use Rattle.range_core.specs.declared.list.RangeList.{RangeList}
-use Rattle.range_core.specs.Changes.{is_covered, mode_in, modes_of}
-use Rattle.range_core.specs.Ranges.{Covers, IsByteRange}
-use Rattle.lock_book.specs.declared.Owner.{Owner}
-use Rattle.lock_book.specs.declared.Owner.TheVariants.{Description}
-use Rattle.lock_book.specs.declared.book.Book.{Book}
-use Rattle.lock_book.specs.Books.{byte_modes_of, list_of}
-use Rattle.lock_book.specs.OwnerLists.{modes_in_list}
-use Rattle.lock_server.specs.declared.FlockLock.{FlockLock}
-use Rattle.lock_server.specs.declared.Lock.{Lock}
-use Rattle.lock_server.specs.declared.Pending.{Pending}
-use Rattle.lock_server.specs.declared.file.LockFile.{LockFile}
-use Rattle.lock_server.specs.declared.import.parts.FilePart.{FilePart}
+use Rattle.range_core.specs.Changes.{mode_in}
+use Rattle.lock_book.specs.Books.{list_of}
 use Rattle.lock_server.specs.declared.import.parts.Note.{Note as NotePart}
-use Rattle.lock_server.specs.declared.import.parts.Parts.{Parts}
-use Rattle.lock_server.specs.declared.table.Table.{Table}
-use Rattle.lock_server.specs.FileView.{file_state, state_at}
-use Rattle.lock_server.specs.Files.{FileState, SameFile, untouched}
-use Rattle.lock_server.specs.Importing.{AreNotesOf, AreOf}
-use Rattle.lock_server.specs.Inventory.{AreFiles, AreJust, FileEntry, IsInventory, Note, SaysFile, note_place}
-use Rattle.lock_server.specs.Listing.{IsByteLock}
-use Rattle.lock_server.specs.Reading.{MayLock, MayStand, MayWait, entry_of, inventory_of, note_of}
-use Rattle.lock_server.specs.Safety.{IsSafe}
-use Rattle.lock_server.specs.States.{HasDetected}
-use Rattle.lock_server.specs.TableView.{entry_of as file_entry_of, table_state}
+use Rattle.lock_server.specs.Reading.{entry_of}
+use Rattle.lock_server.specs.TableView.{entry_of as file_entry_of}
 use Rattle.lock_server.proofs.JustLemmas.{All-from, Contains-cons, Contains-here, Contains-nil, Contains-there}
 use Rattle.lock_server.proofs.ListLemmas.{Any-nil}
 use Rattle.lock_server.proofs.OrderedLemmas.{Any-map, Contains-map, all_says, files_rise}

@@ -1,20 +1,8 @@
 -- What the server's calls come to, by what the table's do: for `LockServer::cancel`, `LockServer::convert`, `LockServer::flock_or_refuse` and others.
-use Rattle.std.proofs.Common.{ℕ, inr, sym, subst, refl, false, Option, Some, None, List}
-use Rattle.std.proofs.Math.Logic.{∥∥₁_map}
-use Rattle.range_core.specs.declared.Mode.{Mode}
-use Rattle.range_core.specs.declared.Span.{Span}
-use Rattle.wait_core.specs.declared.Family.{Family}
-use Rattle.wait_core.specs.declared.Family.TheVariants.{Bytes}
-use Rattle.wait_core.specs.declared.Policy.{Policy}
-use Rattle.lock_server.specs.declared.Pending.{Pending}
+use Rattle.lock_server.proofs.Common.{ℕ, inr, sym, subst, refl, false, Option, Some, None, List, ∥∥₁_map, Mode, Span, Family, Bytes, Policy, Pending, Table, owners_of, IsSettled, IsWaitBlocked, State, SameState, SettlesFile, IsSafe, AreTicketsOnce, table_state, FetchComesTo, SetsOn, Releases, ReleasesOn, IsRefused, Suspends, byte_request, given_by, no_ticket}
 use Rattle.lock_server.specs.declared.Answer.TheVariants.{Done}
-use Rattle.lock_server.specs.declared.table.Table.{Table}
-use Rattle.lock_server.specs.Pendings.{owners_of}
-use Rattle.lock_server.specs.Settling.{IsSettled, IsWaitBlocked}
-use Rattle.lock_server.specs.States.{State, SameState, SettlesFile}
-use Rattle.lock_server.specs.Safety.{IsSafe, AreTicketsOnce}
-use Rattle.lock_server.specs.TableView.{StaysSafe, table_state}
-use Rattle.lock_server.specs.Calls.{FetchComesTo, SetsOn, Changes, Releases, ReleasesOn, IsRefused, SetComesTo, Suspends, IsSetHeldBack, byte_request, given_by, no_ticket}
+use Rattle.lock_server.specs.TableView.{StaysSafe}
+use Rattle.lock_server.specs.Calls.{Changes, SetComesTo, IsSetHeldBack}
 use Rattle.lock_server.proofs.JoinLemmas.{safe_but_joined, safe_joined}
 use Rattle.lock_server.proofs.SafeLemmas.{Moves, moves_given, moves_settled, moves_unset, safe_but, safe_fetched, safe_moved, safe_settled, safe_with}
 use Rattle.lock_server.proofs.TakenLemmas.{tickets_once}

@@ -1,14 +1,7 @@
 -- The grants of a settling, one after another: for `settle`.
-use Rattle.std.proofs.lemmas.Grind.{common_steps}
-use Rattle.std.proofs.Common.{ℕ, ◌≡◌, ◌≢◌, ◌+◌, ◌∙◌, inl, inr, sym, ap, refl, subst, arith, List, [], ◌∷◌, ◌++◌, Any, length, length-append, append_assoc, append-nil}
-use Rattle.std.proofs.lemmas.List.Elements.{Contains-append_left, Contains-append_right, Contains-append_cases}
-use Rattle.std.proofs.lemmas.Bool.{cases_eq}
-use Rattle.wait_core.specs.declared.Policy.{Policy}
-use Rattle.lock_server.specs.declared.Pending.{Pending}
-use Rattle.lock_server.specs.Pendings.{tickets_of, owners_of}
-use Rattle.lock_server.specs.Files.{FileState, SameFile}
-use Rattle.lock_server.specs.Settling.{Settles, IsSettled}
-use Rattle.lock_server.specs.States.{State, IsDetectedOf, HasDetected, Crosses, GrantsOn, SettlesFile}
+use Rattle.lock_server.proofs.Common.{common_steps, ℕ, ◌≡◌, ◌≢◌, ◌+◌, ◌∙◌, inl, inr, sym, ap, refl, subst, arith, List, [], ◌∷◌, ◌++◌, Any, length, append_assoc, append-nil, Contains-append_left, Contains-append_right, Contains-append_cases, cases_eq, Policy, Pending, tickets_of, owners_of, FileState, SameFile, Settles, IsSettled, State, IsDetectedOf, HasDetected, Crosses, SettlesFile}
+use Rattle.std.proofs.Common.{length-append}
+use Rattle.lock_server.specs.States.{GrantsOn}
 use Rattle.lock_server.proofs.LeaveLemmas.{Any-with}
 use Rattle.lock_server.proofs.StateLemmas.{SameFile-itself, SameFile-then}
 

@@ -1,8 +1,5 @@
 -- States that are the same at each place are one state: for `Table::cancel`, `LockServer::flock_or_wait`, `Table::settle` and `LockServer::wait`.
-use Rattle.std.proofs.Common.{arith, ◌≡◌, refl}
-use Rattle.std.proofs.lemmas.Grind.{common_steps}
-use Rattle.lock_server.specs.Files.{FileState, SameLocks, SameFile}
-use Rattle.lock_server.specs.States.{State, SameState}
+use Rattle.lock_server.proofs.Common.{arith, ◌≡◌, refl, common_steps, FileState, SameLocks, SameFile, State, SameState}
 
 -- the functions of a record are equal where their values are
 pub file_from_same : (F G : FileState) → SameFile F G → G ≡ F

@@ -1,18 +1,5 @@
 -- Which steps between owners are there after a change: for freedom from cycles.
-use Rattle.std.proofs.Common.{arith, ℕ, ◌≡◌, ◌∙◌, ◌⊎◌, inl, inr, sym, ap, subst, refl, true, false, cond, Bool, Option, Some, List, [], ◌∷◌, ◌++◌, Any}
-use Rattle.std.proofs.lemmas.Grind.{common_steps}
-use Rattle.std.specs.Prelude.{filter}
-use Rattle.range_core.specs.declared.Mode.{Mode}
-use Rattle.range_core.specs.Ranges.{HeldConflicts}
-use Rattle.wait_core.specs.declared.Family.{Family}
-use Rattle.wait_core.specs.declared.Family.TheVariants.{Bytes, Whole}
-use Rattle.wait_core.specs.declared.Policy.{Policy}
-use Rattle.wait_core.specs.declared.Policy.TheVariants.{Held, Queue}
-use Rattle.wait_core.specs.Blocking.{WaitsConflict}
-use Rattle.lock_server.specs.declared.Pending.{Pending}
-use Rattle.lock_server.specs.Pendings.{as_wait}
-use Rattle.lock_server.specs.Files.{FileState}
-use Rattle.lock_server.specs.Deadlock.{BlocksIn, IsBlockedByOwner, WaitsForOn}
+use Rattle.lock_server.proofs.Common.{arith, ℕ, ◌≡◌, ◌∙◌, ◌⊎◌, inl, inr, sym, ap, subst, refl, true, false, cond, Bool, Option, Some, List, [], ◌∷◌, ◌++◌, Any, common_steps, filter, Mode, HeldConflicts, Family, Bytes, Whole, Policy, Held, Queue, WaitsConflict, Pending, as_wait, FileState, BlocksIn, IsBlockedByOwner, WaitsForOn}
 use Rattle.lock_server.proofs.ListLemmas.{Any-here, Any-there, Any-cons, no_place}
 
 -- each lock of G stood in F, or is of an owner of whom this holds

@@ -1,23 +1,8 @@
 -- A file without a lock and a wait has no entry: for `LockServer`'s fact `swept`, `Table::forget`, `flock_or_refuse` and `flock_or_wait`.
-use Rattle.std.proofs.Common.{arith, ℕ, ◌≡◌, ◌∙◌, inl, inr, sym, subst, refl, true, Bool, Option, Some, None, List, [], ◌∷◌, ◌++◌}
-use Rattle.std.proofs.lemmas.Grind.{common_steps}
-use Rattle.std.specs.Prelude.{◌↔◌, ◌==◌, ◌&&◌, if◌then◌else◌}
-use Rattle.std.proofs.lemmas.Bool.{cases_eq}
-use Rattle.std.proofs.lemmas.Bool.Decides.{nat_tests}
-use Rattle.range_core.specs.declared.Mode.{Mode}
-use Rattle.range_core.specs.declared.Span.{Span}
-use Rattle.range_core.specs.Ranges.{IsByteRange}
-use Rattle.range_core.specs.Changes.{is_covered}
-use Rattle.wait_core.specs.declared.Family.{Family}
-use Rattle.wait_core.specs.declared.Policy.{Policy}
-use Rattle.lock_server.specs.declared.Pending.{Pending}
-use Rattle.lock_server.specs.declared.file.LockFile.{LockFile}
-use Rattle.lock_server.specs.declared.table.Table.{Table}
-use Rattle.lock_server.specs.Files.{FileState, SameFile, SetsBytes, SetsFlock, SetsLock, untouched}
-use Rattle.lock_server.specs.FileView.{state_at}
-use Rattle.lock_server.specs.Settling.{Settles}
-use Rattle.lock_server.specs.States.{SettlesFile, State}
-use Rattle.lock_server.specs.TableView.{AreSwept, HasEntry, IsSwept, KeepsEntries, KeepsOthers, entry_of, table_state}
+use Rattle.lock_server.proofs.Common.{arith, ℕ, ◌≡◌, ◌∙◌, inl, inr, sym, subst, refl, true, Bool, Option, Some, None, List, [], ◌∷◌, ◌++◌, common_steps, ◌↔◌, ◌&&◌, if◌then◌else◌, cases_eq, nat_tests}
+use Rattle.lock_server.proofs.Common.{Mode, Span, IsByteRange, is_covered, Family, Policy, Pending, LockFile, Table, FileState, SameFile, SetsBytes, SetsFlock, SetsLock, untouched, state_at, Settles, SettlesFile, State, AreSwept, KeepsEntries, KeepsOthers, entry_of, table_state}
+use Rattle.std.specs.Prelude.{◌==◌}
+use Rattle.lock_server.specs.TableView.{HasEntry, IsSwept}
 use Rattle.lock_server.proofs.ListLemmas.{no_place}
 use Rattle.lock_server.proofs.StateLemmas.{SameFile-itself}
 

@@ -1,26 +1,6 @@
 -- The entries of files: for `Table::add_steps`, `Table::blocker`, `Table::blocks` and `Table::holds_back`.
-use Rattle.std.proofs.Common.{ℕ, ◌≡◌, ◌∙◌, sym, ap, arith, Option, Some, None, inl, inr, []}
-use Rattle.std.specs.Borrow.{Bor}
-use Rattle.std.specs.Option.{option_copied}
-use Rattle.range_core.specs.declared.Mode.{Mode}
-use Rattle.range_core.specs.Ranges.{HeldConflicts, IsByteRange}
-use Rattle.lock_book.specs.declared.Owner.{Owner}
-use Rattle.lock_book.specs.declared.Owner.TheVariants.{Process, Description}
-use Rattle.wait_core.specs.declared.Family.{Family}
-use Rattle.wait_core.specs.declared.Family.TheVariants.{Bytes, Whole}
-use Rattle.wait_core.specs.declared.Policy.{Policy}
-use Rattle.wait_core.specs.declared.Policy.TheVariants.{Held, Queue}
-use Rattle.wait_core.specs.Blocking.{IsBlockedIn}
-use Rattle.lock_server.specs.declared.Pending.{Pending}
-use Rattle.lock_server.specs.Pendings.{as_wait}
-use Rattle.lock_server.specs.Files.{by_owner, locks_on, untouched}
-use Rattle.lock_server.specs.Settling.{HasAlready, HasIn, IsBlockedUnless, IsHeldBack}
+use Rattle.lock_server.proofs.Common.{ℕ, ◌≡◌, ◌∙◌, sym, ap, arith, Option, Some, None, inl, inr, [], Bor, option_copied, Mode, HeldConflicts, IsByteRange, Owner, Process, Description, Family, Bytes, Whole, Policy, Held, Queue, IsBlockedIn, Pending, as_wait, by_owner, locks_on, untouched, HasAlready, HasIn, IsBlockedUnless, IsHeldBack, LockFile, Table, file_state, state_at, entry_in, table_state, entry_of}
 use Rattle.lock_server.proofs.ListLemmas.{Any-nil}
-use Rattle.lock_server.specs.declared.file.LockFile.{LockFile}
-use Rattle.lock_server.specs.declared.table.Table.{Table}
-use Rattle.lock_server.specs.FileView.{file_state, state_at}
-use Rattle.lock_server.specs.FilesView.{entry_in}
-use Rattle.lock_server.specs.TableView.{table_state, entry_of}
 
 -- a file with an entry has its state
 pub found_state : (table : Table) (file : ℕ) (found : Option (Bor LockFile)) (locks : Bor LockFile)

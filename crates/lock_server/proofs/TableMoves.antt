@@ -1,21 +1,7 @@
 -- What is known of tickets and of owners, and the states of two tables, where the entry of one file changes: for `Table::give_back`,
 -- `Table::next_grant`, `Table::release` and `Table::release_flock`.
-use Rattle.std.proofs.Common.{rules, arith, ℕ, ◌≡◌, ◌≢◌, ◌∙◌, sym, ap, subst, refl, inl, inr, true, false, Bool, Option, Some, None, List, [], ◌∷◌, ◌++◌}
-use Rattle.std.proofs.lemmas.Grind.{common_steps}
-use Rattle.std.proofs.lemmas.Bool.{cases_eq}
-use Rattle.range_core.specs.declared.Mode.{Mode}
-use Rattle.lock_server.specs.declared.Pending.{Pending}
-use Rattle.lock_server.specs.declared.file.LockFile.{LockFile}
-use Rattle.lock_server.specs.declared.files.Files.{Files}
-use Rattle.lock_server.specs.declared.tickets.Tickets.{Tickets}
-use Rattle.lock_server.specs.declared.waiters.Waiters.{Waiters}
-use Rattle.lock_server.specs.Files.{FileState, SameFile}
-use Rattle.lock_server.specs.FileView.{file_state, state_at}
-use Rattle.lock_server.specs.FilesView.{PutsEntry, entry_in}
-use Rattle.lock_server.specs.Index.{IsIndexed, state_in}
-use Rattle.lock_server.specs.TicketsView.{grants_of}
-use Rattle.lock_server.specs.WaitersView.{crossed_of, SameWaiters, BeginsIf, CrossesIf, EndsIf}
-use Rattle.lock_server.specs.States.{State, ChangesFile, SameState}
+use Rattle.lock_server.proofs.Common.{rules, arith, ℕ, ◌≡◌, ◌≢◌, ◌∙◌, sym, ap, subst, refl, inl, inr, true, false, Bool, Option, Some, None, List, [], ◌∷◌, ◌++◌, common_steps, cases_eq, Mode, Pending, LockFile, Files, Tickets, Waiters, FileState, SameFile, file_state, state_at, PutsEntry, entry_in, IsIndexed, state_in, grants_of, crossed_of, SameWaiters, EndsIf, State, ChangesFile, SameState}
+use Rattle.lock_server.specs.WaitersView.{BeginsIf, CrossesIf}
 use Rattle.lock_server.proofs.IndexLemmas.{same_from_eq}
 use Rattle.lock_server.proofs.TicketMoves.{TicketsKnown, PutsWaits}
 use Rattle.lock_server.proofs.WaiterMoves.{WaitersKnown, waiters_crossed, waiters_joined, waiters_kept, waiters_left, waiters_passed, waiters_unmoved}

@@ -1,18 +1,9 @@
 -- Which tickets are taken, by what a table knows of them: for `is_taken`, `cancel` and the server's fact that each names one request.
-use Rattle.std.proofs.Common.{arith, ℕ, ◌≡◌, ◌==◌, ◌∙◌, inl, inr, sym, refl, subst, Option, Some, None, List, [], ◌∷◌, ◌++◌, Any}
-use Rattle.std.proofs.lemmas.Grind.{common_steps}
-use Rattle.std.specs.Prelude.{◌↔◌, IsTrue, IfSome, IfNone, OnErr, OnOk, Ok, Err, Result, Contains}
-use Rattle.std.proofs.lemmas.Bool.{eqb-true, eq-eqb}
+use Rattle.lock_server.proofs.Common.{arith, ℕ, ◌≡◌, ◌==◌, ◌∙◌, inl, inr, sym, refl, subst, Option, Some, None, List, [], ◌∷◌, ◌++◌, Any, common_steps, ◌↔◌, IsTrue, IfSome, IfNone, OnErr, OnOk, Ok, Err, Result, eqb-true, eq-eqb, Pending, Table, Place, Reserved, Waits, Granted, Tickets, place_at, grants_of, SetsPlace, table_state, entry_of, AreTicketsOnce}
+use Rattle.std.specs.Prelude.{Contains}
 use Rattle.std.proofs.lemmas.List.Folds.{Any-from_list_any, list_any-from_Any}
-use Rattle.lock_server.specs.declared.Pending.{Pending}
-use Rattle.lock_server.specs.declared.table.Table.{Table}
-use Rattle.lock_server.specs.declared.tickets.Place.{Place}
-use Rattle.lock_server.specs.declared.tickets.Place.TheVariants.{Reserved, Waits, Granted}
-use Rattle.lock_server.specs.declared.tickets.Tickets.{Tickets}
-use Rattle.lock_server.specs.TicketsView.{place_at, grants_of, SetsPlace, SameTickets}
-use Rattle.lock_server.specs.TableView.{table_state, entry_of}
+use Rattle.lock_server.specs.TicketsView.{SameTickets}
 use Rattle.lock_server.specs.States.{IsTaken, WaitsOn}
-use Rattle.lock_server.specs.Safety.{AreTicketsOnce}
 use Rattle.lock_server.proofs.ListLemmas.{Any-weaker}
 use Rattle.lock_server.proofs.TicketMoves.{TicketsKnown, IsIdle, ticket_of, itself, has_key, tickets_fetched, tickets_queued}
 

@@ -1,16 +1,7 @@
 -- Whoever goes on from behind what was told is told all, each once, in order: for `listings_tell_all`.
-use Rattle.std.proofs.lemmas.Grind.{common_steps}
-use Rattle.std.proofs.Common.{ℕ, ◌≡◌, ◌<◌, ◌∙◌, ◌⊎◌, inl, inr, refl, sym, ap, subst, arith, zero, suc, Some, List, [], ◌∷◌, All, AllPairs, Contains, length, get_or}
-use Rattle.std.proofs.lemmas.Bool.{cases_lt}
-use Rattle.std.proofs.lemmas.List.Elements.{All-cons, Contains-append_right, Contains-get_or}
-use Rattle.range_core.specs.declared.Mode.{Mode}
-use Rattle.range_core.specs.declared.Span.{Span}
-use Rattle.range_core.specs.Ranges.{IsRun, Modes}
-use Rattle.lock_server.specs.declared.FlockLock.{FlockLock}
-use Rattle.lock_server.specs.declared.Lock.{Lock}
-use Rattle.lock_server.specs.declared.OwnerWait.{OwnerWait}
-use Rattle.lock_server.specs.Files.{FileState}
-use Rattle.lock_server.specs.Listing.{IsByteLock, IsEarlier, IsFlockLock, IsInUse, IsWaitUpTo, file_place, flock_place, lock_place, wait_place}
+use Rattle.lock_server.proofs.Common.{common_steps, ℕ, ◌≡◌, ◌<◌, ◌∙◌, ◌⊎◌, inl, inr, refl, sym, ap, subst, arith, zero, suc, Some, List, [], ◌∷◌, All, Contains, length, get_or, cases_lt, All-cons, Contains-append_right, Contains-get_or, Mode, Span, IsRun, Modes, FlockLock, Lock, OwnerWait, FileState, IsByteLock, IsEarlier, IsFlockLock, IsWaitUpTo, flock_place, lock_place, wait_place}
+use Rattle.std.proofs.Common.{AllPairs}
+use Rattle.lock_server.specs.Listing.{IsInUse, file_place}
 use Rattle.lock_server.specs.ListingLaws.{AreAll, AreTold, ListingsTellAll, place_behind}
 use Rattle.lock_server.proofs.PlaceLemmas.{IsEarlier-transitive}
 

@@ -1,19 +1,12 @@
 -- Maps by number, and how many grants may still come: for `Tickets::fetch`, `Tickets::forget`, `Tickets::grant` and others.
-use Rattle.std.proofs.Common.{ℕ, ◌≡◌, ◌≢◌, ◌+◌, ◌≤◌, arith, false, List, [], ◌∷◌, Option, Some, Result, Ok, Err, length}
-use Rattle.std.specs.Prelude.{OnOk, OnErr}
-use Rattle.std.specs.Ordering.{nat_cmp}
-use Rattle.std.specs.BTreeMap.{is_at, insert_entry, UpdatesBy}
-use Rattle.std.specs.Map.{lookup, set_value, remove_entry, values_of, keys_of}
+use Rattle.lock_server.proofs.Common.{ℕ, ◌≡◌, ◌≢◌, ◌+◌, ◌≤◌, arith, false, List, [], ◌∷◌, Option, Some, length, OnOk, OnErr, nat_cmp, is_at, UpdatesBy, lookup, keys_of, common_steps, sum_by-cons, Place, Granted, Tickets, place_at, SetsPlace}
+use Rattle.std.proofs.Common.{Result, Ok, Err}
+use Rattle.std.specs.BTreeMap.{insert_entry}
+use Rattle.std.specs.Map.{set_value, remove_entry, values_of}
 use Rattle.std.specs.List.Sorted.{IsStrictlySortedBy}
 use Rattle.std.proofs.lemmas.Cmp.{nat_cmp_total}
-use Rattle.std.proofs.lemmas.Grind.{common_steps}
-use Rattle.std.proofs.lemmas.List.Sums.{sum_by-cons}
 use Rattle.std.proofs.lemmas.Map.Entries.{sum_by-set_value, sum_by-insert_entry, sum_by-remove_entry}
-use Rattle.lock_server.specs.declared.tickets.Place.{Place}
-use Rattle.lock_server.specs.declared.tickets.Place.TheVariants.{Granted}
-use Rattle.lock_server.specs.declared.tickets.Tickets.{Tickets}
 use Rattle.lock_server.specs.Owed.{owed, owed_by}
-use Rattle.lock_server.specs.TicketsView.{place_at, SetsPlace}
 
 -- another number is not found where this one is
 pub is_at-other : (n other : ℕ) → other ≢ n → is_at (nat_cmp n) other ≡ false

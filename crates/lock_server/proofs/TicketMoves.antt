@@ -1,17 +1,5 @@
 -- What is known of tickets, where a wait joins, leaves or is granted: for the table's fact `indexed`.
-use Rattle.std.proofs.lemmas.Grind.{common_steps}
-use Rattle.std.proofs.Common.{ℕ, ◌≡◌, ◌≢◌, ◌==◌, ◌∙◌, inl, inr, sym, ap, refl, subst, arith, true, false, Bool, Option, Some, None, suc, List, [], ◌∷◌, ◌++◌, All, append-nil}
-use Rattle.std.specs.Prelude.{◌||◌, ◌↔◌, IsTrue, AllPairs}
-use Rattle.std.specs.List.{list_any}
-use Rattle.std.proofs.lemmas.Bool.{cases_Bool, cases_eq, eqb-true, eq-eqb}
-use Rattle.std.proofs.lemmas.List.Elements.{All-cons, All-head, All-tail}
-use Rattle.std.proofs.lemmas.List.Kept.{AllPairs-cons}
-use Rattle.std.proofs.lemmas.List.Quantifiers.{all_pairs_push}
-use Rattle.lock_server.specs.declared.Pending.{Pending}
-use Rattle.lock_server.specs.declared.tickets.Place.{Place}
-use Rattle.lock_server.specs.declared.tickets.Place.TheVariants.{Waits, Granted}
-use Rattle.lock_server.specs.declared.tickets.Tickets.{Tickets}
-use Rattle.lock_server.specs.TicketsView.{place_at, grants_of, SetsPlace}
+use Rattle.lock_server.proofs.Common.{common_steps, ℕ, ◌≡◌, ◌≢◌, ◌==◌, ◌∙◌, inl, inr, sym, ap, refl, subst, arith, true, false, Bool, Option, Some, None, suc, List, [], ◌∷◌, ◌++◌, All, append-nil, ◌||◌, ◌↔◌, IsTrue, AllPairs, list_any, cases_Bool, cases_eq, eqb-true, eq-eqb, All-cons, All-head, All-tail, AllPairs-cons, all_pairs_push, Pending, Place, Waits, Granted, Tickets, place_at, grants_of, SetsPlace}
 use Rattle.lock_server.proofs.LeaveLemmas.{All-without}
 
 module _ {X : Type 0} (key : X → ℕ) where

@@ -1,18 +1,11 @@
 -- The entries of owners with detected waits: for `Waiters::end`, `Waiter::leave`, `Waiters::reserve` and `Waiters::sweep`.
-use Rattle.std.proofs.lemmas.Grind.{common_steps}
-use Rattle.std.proofs.Common.{ℕ, ◌≡◌, ◌≢◌, ◌==◌, ◌+◌, ◌<◌, ◌∙◌, sym, ap, subst, refl, arith, cond, suc, Bool, Option, Some, None, List, [], ◌∷◌, ◌++◌, All, length, get_or, take, drop, false}
-use Rattle.std.specs.Ordering.{nat_cmp}
-use Rattle.std.specs.BTreeMap.{UpdatesBy, WritesThrough}
-use Rattle.std.specs.Borrow.{MutBor}
-use Rattle.std.specs.Option.{option_copied_mut}
+use Rattle.lock_server.proofs.Common.{common_steps, ℕ, ◌≡◌, ◌≢◌, ◌==◌, ◌+◌, ◌<◌, ◌∙◌, sym, ap, subst, refl, arith, cond, suc, Bool, Option, Some, None, List, [], ◌∷◌, ◌++◌, All, length, get_or, take, drop, false, nat_cmp, UpdatesBy, MutBor, option_copied_mut, cases_eq, cases_lt, eqb-true, eq-eqb, ne_eqb, All-head, All-tail, sum_by-cons, Waiter, Waiters, waiter_of, files_of, crossed_of, times, Ends}
+use Rattle.std.specs.BTreeMap.{WritesThrough}
 use Rattle.std.specs.Prelude.{position}
-use Rattle.std.proofs.lemmas.Bool.{cases_eq, cases_lt, eqb-true, eq-eqb, lt-ltb, ne_eqb}
-use Rattle.std.proofs.lemmas.List.Elements.{All-head, All-tail}
+use Rattle.std.proofs.lemmas.Bool.{lt-ltb}
 use Rattle.std.proofs.lemmas.List.Quantifiers.{position-Some}
-use Rattle.std.proofs.lemmas.List.Sums.{fails_before_first, sum_by-append, sum_by-cons}
-use Rattle.lock_server.specs.declared.waiters.Waiter.{Waiter}
-use Rattle.lock_server.specs.declared.waiters.Waiters.{Waiters}
-use Rattle.lock_server.specs.WaitersView.{waiter_of, files_of, crossed_of, files_in, crossed_in, times, Ends, LeavesFile, Sweeps}
+use Rattle.std.proofs.lemmas.List.Sums.{fails_before_first, sum_by-append}
+use Rattle.lock_server.specs.WaitersView.{files_in, crossed_in, LeavesFile, Sweeps}
 use Rattle.lock_server.proofs.LeaveLemmas.{split_at}
 use Rattle.lock_server.proofs.TicketLemmas.{is_at-other}
 

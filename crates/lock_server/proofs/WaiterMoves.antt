@@ -1,15 +1,8 @@
 -- What is known of the owners with detected waits, where a wait joins or leaves: for the table's fact `indexed`.
-use Rattle.std.proofs.lemmas.Grind.{common_steps}
-use Rattle.std.proofs.Common.{ℕ, ◌≡◌, ◌≢◌, ◌==◌, ◌+◌, ◌∙◌, inl, inr, sym, ap, refl, arith, true, false, cond, Bool, List, [], ◌∷◌, ◌++◌, Any, length, append-nil}
-use Rattle.std.specs.Prelude.{filter}
-use Rattle.std.proofs.lemmas.Bool.{cases_Bool, cases_eq, eq-eqb, ne_eqb}
-use Rattle.std.proofs.lemmas.List.Sums.{sum_by-cons, sum_by_push}
-use Rattle.lock_server.specs.declared.Pending.{Pending}
-use Rattle.lock_server.specs.declared.waiters.Waiters.{Waiters}
-use Rattle.lock_server.specs.WaitersView.{files_of, crossed_of, times, Begins, Ends}
+use Rattle.lock_server.proofs.Common.{common_steps, ℕ, ◌≡◌, ◌≢◌, ◌==◌, ◌+◌, ◌∙◌, inl, inr, sym, ap, refl, arith, true, false, cond, Bool, List, [], ◌∷◌, ◌++◌, Any, length, append-nil, filter, cases_Bool, cases_eq, eq-eqb, ne_eqb, sum_by-cons, Pending, Waiters, files_of, crossed_of, times, Ends, IsDetectedOf, detected_waits}
+use Rattle.std.proofs.lemmas.List.Sums.{sum_by_push}
+use Rattle.lock_server.specs.WaitersView.{Begins}
 use Rattle.lock_server.specs.WaitersView as view
-use Rattle.lock_server.specs.States.{IsDetectedOf}
-use Rattle.lock_server.specs.Index.{detected_waits}
 use Rattle.lock_server.proofs.ListLemmas.{Any-cons, Any-nil}
 use Rattle.lock_server.proofs.LeaveLemmas.{counted_with}
 use Rattle.lock_server.proofs.IndexLemmas.{is_detected_of, some_detected}

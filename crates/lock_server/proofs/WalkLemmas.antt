@@ -1,28 +1,19 @@
 -- Loops over maps that put what they go over: for the exports.
-use Rattle.std.proofs.Common.{ℕ, ◌≡◌, ◌<◌, ◌^◌, ◌∙◌, sym, ap, subst, refl, arith, true, Option, Some, List, [], ◌∷◌, ◌++◌, All, length, map}
-use Rattle.std.proofs.lemmas.Grind.{common_steps, flat_map-append}
-use Rattle.std.specs.Prelude.{AllPairs, Contains, is_some}
-use Rattle.std.specs.Borrow.{Bor}
-use Rattle.std.specs.BTreeMap.{BTreeMap, IsOrdered, get, is_at}
+use Rattle.lock_server.proofs.Common.{ℕ, ◌≡◌, ◌<◌, ◌^◌, ◌∙◌, sym, ap, subst, refl, arith, true, Option, Some, List, [], ◌∷◌, ◌++◌, All, length, map, common_steps, flat_map-append, AllPairs, is_some, Bor, get, is_at, flat_map, keys_of, deref_pair, nat_cmp, nat_tests, length-append, map-append, All-nil, All-cons, All-push, All-weaker, AllPairs-cons, AreJust, IsEarlier, Puts, PutsSome}
+use Rattle.std.specs.Prelude.{Contains}
+use Rattle.std.specs.BTreeMap.{BTreeMap, IsOrdered}
 use Rattle.std.specs.Iterator.{Yields}
-use Rattle.std.specs.List.{AllByRecursion, flat_map}
+use Rattle.std.specs.List.{AllByRecursion}
 use Rattle.std.specs.List.Sorted.{IsStrictlySortedBy}
-use Rattle.std.specs.Map.{keys_of}
-use Rattle.std.specs.Map.Iter.{TakesFirst, deref_pair}
-use Rattle.std.specs.Ordering.{nat_cmp}
+use Rattle.std.specs.Map.Iter.{TakesFirst}
 use Rattle.std.specs.declared.cmp.Ordering.{Ordering}
 use Rattle.std.specs.declared.cmp.Ordering.TheVariants.{Less}
-use Rattle.std.proofs.lemmas.Bool.Decides.{nat_tests}
-use Rattle.std.proofs.lemmas.List.{append-nil, length-append, map-append}
-use Rattle.std.proofs.lemmas.List.Elements.{All-get_or, All-nil, All-cons, All-push, All-weaker}
-use Rattle.std.proofs.lemmas.List.Kept.{AllPairs-cons}
+use Rattle.std.proofs.lemmas.List.{append-nil}
+use Rattle.std.proofs.lemmas.List.Elements.{All-get_or}
 use Rattle.std.proofs.lemmas.Map.Iter.{rest_more, rest_so_far}
 use Rattle.std.proofs.lemmas.Map.Keys.{sorted_head, sorted_tail}
 use Rattle.std.proofs.lemmas.Map.Views.{Contains-keys_from_lookup}
 use Rattle.std.proofs.Math.Seq.{get_or-append_seam}
-use Rattle.lock_server.specs.Inventory.{AreJust}
-use Rattle.lock_server.specs.Listing.{IsEarlier}
-use Rattle.lock_server.specs.Words.{Puts, PutsSome}
 use Rattle.lock_server.proofs.JustLemmas.{AllPairs-nil, IsPiece, just_joined, keys}
 use Rattle.lock_server.proofs.WordLemmas.{puts_append, puts_none}
 

@@ -1,14 +1,10 @@
 -- Words that are put into a buffer, one behind another.
-use Rattle.std.proofs.Common.{◌≡◌, ◌<◌, ◌≤◌, ◌+◌, ◌*◌, ◌^◌, ◌∙◌, sym, ap, subst, refl, arith, ℕ, suc, List, [], ◌∷◌, ◌++◌, length, get_or, take, drop, append_assoc}
-use Rattle.std.proofs.lemmas.Grind.{flat_map-append}
-use Rattle.std.specs.Int.{w64, to_le_bytes, from_le_bytes}
-use Rattle.std.specs.List.{flat_map}
-use Rattle.std.proofs.lemmas.List.{append-nil, length-append, flat_map_more, length-take-le, length-drop, take-append-drop, take_all, take_more}
-use Rattle.std.proofs.lemmas.List.Elements.{All-append, All-nil, All-head, All-tail}
+use Rattle.lock_server.proofs.Common.{◌≡◌, ◌<◌, ◌≤◌, ◌+◌, ◌*◌, ◌^◌, ◌∙◌, sym, ap, subst, refl, arith, ℕ, suc, List, [], ◌∷◌, ◌++◌, length, get_or, take, drop, append_assoc, flat_map-append, w64, from_le_bytes, flat_map, length-append, length-take-le, take-append-drop, take_all, take_more, All-append, All-nil, All-head, All-tail, Puts, PutsSome, bytes_of, greatest, listed}
+use Rattle.std.specs.Int.{to_le_bytes}
+use Rattle.std.proofs.lemmas.List.{append-nil, flat_map_more, length-drop}
 use Rattle.std.proofs.Math.Nat.{mul-suc, mul-zero}
 use Rattle.std.proofs.lemmas.Nat.{from_le_bytes-to_le_bytes_8}
-use Rattle.lock_server.specs.Words.{AreWords, Puts, PutsSome, bytes_of, greatest}
-use Rattle.lock_server.specs.Bytes.{listed}
+use Rattle.lock_server.specs.Words.{AreWords}
 
 pub length-bytes_of : (words : List ℕ) → length (bytes_of words) ≡ 8 * length words
 length-bytes_of [] = refl

@@ -1,6 +1,6 @@
 -- A journal, byte by byte: for `Checking::end`, `Checking::end_last_line`, `Checking::end_line` and others.
-use Rattle.std.proofs.Common.{rules, ◌≡◌, ◌<◌, ◌≤◌, ℕ, ◌+◌, ◌==◌, true, false, nat_lt, List, [], ◌∷◌, ◌++◌, Option, Some, None, Ok, Err, length, refl, sym, ap, subst, ◌∙◌, inl, inr, arith, append_assoc, append-nil, length-append, get_or, take, drop, take-append-drop, All, OnOk, Result, is_some}
-use Rattle.std.proofs.lemmas.Grind.{common_steps}
+use Rattle.replay_core.proofs.Common.{rules, ◌≡◌, ◌<◌, ◌≤◌, ℕ, ◌+◌, ◌==◌, true, false, List, [], ◌∷◌, ◌++◌, Option, Some, None, Ok, Err, length, refl, sym, ap, subst, ◌∙◌, inl, inr, arith, append_assoc, append-nil, length-append, take, drop, take-append-drop, All, Result, is_some, common_steps, Cause, lines_of, journal_start, Finding, Verdict, HasChecked, LinesCome}
+use Rattle.std.proofs.Common.{nat_lt, get_or, OnOk}
 use Rattle.std.specs.List.{slice_split}
 use Rattle.std.proofs.lemmas.Bool.{lt-ltb}
 use Rattle.std.proofs.lemmas.Bool.Decides.{eqb_tells}
@@ -8,19 +8,17 @@ use Rattle.std.proofs.lemmas.List.{take_more}
 use Rattle.std.proofs.lemmas.List.Elements.{All-push}
 use Rattle.std.proofs.lemmas.List.Splits.{slice_split_none, slice_split_at}
 use Rattle.script_core.specs.declared.place.JournalLine.{JournalLine}
-use Rattle.script_core.specs.declared.script.Cause.{Cause}
 use Rattle.script_core.specs.declared.script.Cause.TheVariants.{TooLong}
 use Rattle.script_core.specs.declared.journal.JournalFault.{JournalFault}
 use Rattle.script_core.specs.declared.journal.JournalFault.TheVariants as journal_faults
 use Rattle.script_core.specs.declared.journal.JournalReader.{JournalReader}
-use Rattle.script_core.specs.Words.{lines_of, without_empty_end}
+use Rattle.script_core.specs.Words.{without_empty_end}
 use Rattle.script_core.specs.EntryReading.{entry_limit}
-use Rattle.script_core.specs.JournalReading.{JournalReading, JournalLineGives, MayGoOn, journal_start, reading_behind}
+use Rattle.script_core.specs.JournalReading.{JournalReading, JournalLineGives, MayGoOn, reading_behind}
 use Rattle.script_core.specs.JournalView.{HasRead, Takes, Finishes, expected_in}
-use Rattle.replay_core.specs.declared.checking.Finding.{Finding}
 use Rattle.replay_core.specs.declared.checking.Finding.TheVariants as findings
 use Rattle.replay_core.specs.declared.checking.Checking.{Checking}
-use Rattle.replay_core.specs.Checks.{Verdict, Illegal, Faulty, HasChecked, HasJudged, HasReadLines, Judges, LinesCome, LeadsTo, AreDecided, HasReadBytes, IsFoundOf, IsFoundAt, verdict_of, AreLinesRead, verdict_at_end}
+use Rattle.replay_core.specs.Checks.{Illegal, Faulty, HasJudged, HasReadLines, Judges, LeadsTo, AreDecided, HasReadBytes, IsFoundOf, IsFoundAt, verdict_of, AreLinesRead, verdict_at_end}
 
 -- no byte ends a line
 abbrev pub InLine : List ℕ → Type 0

@@ -1,14 +1,9 @@
 -- What a client has collected, step by step: for `Caller::collect` and `meet`.
-use Rattle.std.proofs.lemmas.Grind.{common_steps}
-use Rattle.std.proofs.Common.{◌≡◌, ℕ, zero, suc, ◌+◌, ◌<◌, ◌≤◌, true, List, [], ◌∷◌, ◌++◌, length, refl, sym, ap, ◌∙◌, subst, arith, length-append, append_assoc, append-nil, take-append-drop, ◌||◌, ◌&&◌, ◌==◌, take, drop}
-use Rattle.std.proofs.lemmas.List.{nil_from_length}
+use Rattle.replay_core.proofs.Common.{common_steps, ◌≡◌, ℕ, zero, suc, ◌+◌, ◌<◌, ◌≤◌, true, List, [], ◌∷◌, ◌++◌, length, refl, sym, ap, ◌∙◌, subst, arith, length-append, append_assoc, append-nil, take-append-drop, ◌&&◌, ◌==◌, take, drop, nil_from_length, Reply, Request, Event, IsPrefixOf, answers_to, requests_taken, ClientView}
+use Rattle.std.proofs.Common.{◌||◌}
 use mathlib.Core.Option.{some, some-injective, some-ne-none}
 use lib.ListN.{get_elem?}
-use Rattle.lock_manager.specs.declared.request.Reply.{Reply}
-use Rattle.lock_manager.specs.declared.request.Request.{Request}
-use Rattle.session_core.specs.Event.{Event}
-use Rattle.session_core.specs.Mail.{IsPrefixOf, answers_in, answers_from, answers_to, requests_taken}
-use Rattle.table_steps.specs.declared.client_view.ClientView.{ClientView}
+use Rattle.session_core.specs.Mail.{answers_in, answers_from}
 use Rattle.table_steps.specs.declared.desk_view.DeskView.{DeskView}
 use Rattle.table_steps.specs.Steps.{met_desk, met_client}
 use Rattle.table_steps.specs.Views.{tally_at}

@@ -1,6 +1,5 @@
 -- What is written in several calls: for `write_all`.
-use Rattle.std.proofs.Common.{rules, ◌≡◌, ℕ, ◌++◌, List, take, drop, Option, append_assoc, take-append-drop}
-use Rattle.std.specs.Io.KnownBytes.{Appends}
+use Rattle.replay_core.proofs.Common.{rules, ◌≡◌, ℕ, ◌++◌, List, take, drop, Option, append_assoc, take-append-drop, Appends}
 use Rattle.std.proofs.KnownBytes.{Appends-trans}
 
 -- all of the text but the rest was written

@@ -1,33 +1,23 @@
 -- What is known of the callers, one after another and all together: for `gather_all`, `make_callers` and `replay_threads`.
-use Rattle.std.proofs.lemmas.Grind.{common_steps}
-use Rattle.std.proofs.Common.{◌≡◌, inl, inr, ℕ, zero, suc, ◌+◌, ◌-◌, ◌<◌, List, [], ◌∷◌, ◌++◌, Some, length, map, refl, sym, ap, ◌∙◌, subst, arith, length-append, slice_get, vec_items, option_map}
-use Rattle.std.proofs.lemmas.List.{length-map}
-use Rattle.std.proofs.lemmas.Option.{slice_get_within, get_or_from_slice_get, slice_get-map}
+use Rattle.replay_core.proofs.Common.{common_steps, ◌≡◌, inl, inr, ℕ, zero, suc, ◌+◌, ◌-◌, ◌<◌, List, [], ◌∷◌, ◌++◌, Some, length, map, refl, sym, ap, ◌∙◌, subst, arith, length-append, slice_get, vec_items, length-map, slice_get_within}
+use Rattle.replay_core.proofs.Common.{state_at, processes_of, Reply, Request, Rules, Event, IsRun, IsPrefixOf, requests_taken, requests_sent, answers_to, manager_of, events_in, Client, ClientView, Meaning, AreCounts, processes_in, Caller, SameCaller, AreOf, AreGathered}
+use Rattle.std.proofs.Common.{option_map}
+use Rattle.std.proofs.lemmas.Option.{get_or_from_slice_get, slice_get-map}
 use Rattle.std.proofs.Math.Logic.{∥∥₁_map}
-use Rattle.lock_manager.specs.ManagerView.{state_at, rules_of, processes_of}
-use Rattle.lock_manager.specs.declared.request.Reply.{Reply}
-use Rattle.lock_manager.specs.declared.request.Request.{Request}
-use Rattle.lock_manager.specs.declared.request.Rules.{Rules}
+use Rattle.lock_manager.specs.ManagerView.{rules_of}
 use Rattle.lock_manager.specs.declared.request.ProcState.TheVariants.{Live}
-use Rattle.session_core.specs.Event.{Event}
-use Rattle.session_core.specs.Runs.{IsRun}
-use Rattle.session_core.specs.Mail.{IsPrefixOf, events_of, requests_taken, requests_sent, answers_to}
+use Rattle.session_core.specs.Mail.{events_of}
 use Rattle.session_core.specs.Headline.{Holds}
-use Rattle.session_core.specs.SessionView.{manager_of, events_in, sent_of}
+use Rattle.session_core.specs.SessionView.{sent_of}
 use Rattle.call_table.specs.Shown.{hub_setup, IsClientOf, SameClient}
 use Rattle.call_table.specs.declared.hub.Hub.{Hub}
-use Rattle.call_table.specs.declared.client.Client.{Client}
-use Rattle.table_steps.specs.declared.client_view.ClientView.{ClientView}
 use Rattle.table_steps.specs.declared.setup.Setup.{Setup}
 use Rattle.call_table.specs.declared.desk.Desk.{Desk}
 use Rattle.call_table.specs.Desks.{IsOpened}
-use Rattle.script_core.specs.ScriptText.{Meaning, IsProcess}
-use Rattle.script_core.specs.ReportText.{AreCounts}
-use Rattle.script_core.specs.Output.{processes_in}
-use Rattle.replay_core.specs.declared.caller.Caller.{Caller}
+use Rattle.script_core.specs.ScriptText.{IsProcess}
 use Rattle.replay_core.specs.declared.threads.ThreadReport.{ThreadReport}
-use Rattle.replay_core.specs.Callers.{SameCaller, AreReady, AreNew, AreOf, IsOf}
-use Rattle.replay_core.specs.Gathering.{IsGathered, AreGathered}
+use Rattle.replay_core.specs.Callers.{AreReady, AreNew, IsOf}
+use Rattle.replay_core.specs.Gathering.{IsGathered}
 use Rattle.replay_core.specs.Interleaving.{IsThreadReport}
 use Rattle.replay_core.specs.Rooms.{IsServed}
 use Rattle.replay_core.proofs.CollectingLemmas.{front_is_all}

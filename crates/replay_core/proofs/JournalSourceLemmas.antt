@@ -1,18 +1,13 @@
 -- A journal as a source gives it: for `read_journal`, `tell` and `tell_finding`.
-use Rattle.std.proofs.lemmas.Grind.{common_steps}
-use Rattle.std.proofs.Common.{◌≡◌, ◌≤◌, ℕ, ◌+◌, List, [], ◌++◌, Option, Some, None, length, refl, arith, length-append}
+use Rattle.replay_core.proofs.Common.{common_steps, ◌≡◌, ◌≤◌, ℕ, ◌+◌, List, [], ◌++◌, Option, Some, None, length, refl, arith, length-append, Cause, lines_of, journal_start, Finding, Verdict, journal_limit, HasChecked, LinesCome}
 use Rattle.std.specs.Io.KnownBytes.{Consumes}
 use Rattle.std.proofs.KnownBytes.{Consumes-trans, Consumes-nil}
 use Rattle.std.proofs.lemmas.Bool.{le-ltb}
-use Rattle.script_core.specs.declared.script.Cause.{Cause}
-use Rattle.script_core.specs.Words.{lines_of}
-use Rattle.script_core.specs.JournalReading.{journal_start}
 use Rattle.script_core.specs.JournalView.{expected_in}
-use Rattle.replay_core.specs.declared.checking.Finding.{Finding}
 use Rattle.replay_core.specs.declared.checking.Finding.TheVariants as findings
 use Rattle.replay_core.specs.declared.checking.Checking.{Checking}
 use Rattle.replay_core.specs.declared.replays.RunFault.TheVariants as faults
-use Rattle.replay_core.specs.Checks.{Verdict, journal_limit, illegal_line, verdict_at_end, HasChecked, HasJudged, IsCheckFault, IsToldOf, JournalComes, LinesCome}
+use Rattle.replay_core.specs.Checks.{illegal_line, verdict_at_end, HasJudged, IsCheckFault, IsToldOf, JournalComes}
 
 -- so much was read and checked, and so many bytes more may come
 pub record IsReadSoFar (old new : Option (List ℕ)) (checking : Checking) (left : ℕ) : Type 0 where

@@ -1,3 +1,4 @@
+mod Common
 pub mod CheckingLemmas
 pub mod CollectingLemmas
 pub mod DeviceLemmas

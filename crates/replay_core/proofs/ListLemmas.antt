@@ -1,7 +1,7 @@
 -- Items of lists that grow at their end: for `gather_all`, `make_callers` and `start_all`.
-use Rattle.std.proofs.Common.{◌≡◌, ◌⊎◌, inl, inr, ℕ, zero, suc, List, [], ◌∷◌, ◌++◌, Option, Some, length, refl, sym, ap, ◌∙◌, arith, append_assoc, slice_get}
+use Rattle.replay_core.proofs.Common.{◌≡◌, inl, inr, ℕ, zero, suc, List, [], ◌∷◌, ◌++◌, Option, Some, length, refl, sym, ap, ◌∙◌, arith, append_assoc, slice_get, slice_get_within}
+use Rattle.std.proofs.Common.{◌⊎◌}
 use Rattle.std.specs.Option.{unwrap_or}
-use Rattle.std.proofs.lemmas.Option.{slice_get_within}
 
 -- the item behind a front
 pub item_behind : {X : Type 0} (front : List X) (x : X) (rest : List X) → slice_get (front ++ x ∷ rest) (length front) ≡ Some x

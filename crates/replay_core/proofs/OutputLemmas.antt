@@ -1,25 +1,15 @@
 -- The texts of a run: for `explained_text`, `replay`, `replay_in_threads` and others.
-use Rattle.std.proofs.lemmas.Grind.{common_steps}
-use Rattle.std.proofs.Common.{◌≡◌, ◌≤◌, ◌∙◌, ℕ, List, [], ◌∷◌, ◌++◌, Option, sym, ap, subst, length, filter, ◌==◌, arith, Ok, Result}
+use Rattle.replay_core.proofs.Common.{common_steps, ◌≡◌, ◌≤◌, ◌∙◌, ℕ, List, [], ◌∷◌, ◌++◌, Option, sym, ap, subst, length, ◌==◌, arith, Ok, Result, length-map, Request, Rules, processes_of, state_at, Event, requests_sent, IsRun, manager_of, events_in, SCRIPT_MAX, Meaning, IsReport, AreCounts, processes_in}
+use Rattle.std.proofs.Common.{filter}
 use Rattle.std.specs.Io.KnownBytes.{IsAtEnd}
-use Rattle.std.proofs.lemmas.List.{length-map}
 use Rattle.std.proofs.lemmas.List.Sums.{length-filter, count_by-le-length}
 use Rattle.std.proofs.Math.Logic.{∥∥₁_map}
-use Rattle.lock_manager.specs.declared.request.Request.{Request}
-use Rattle.lock_manager.specs.declared.request.Rules.{Rules}
 use Rattle.lock_manager.specs.declared.request.ProcState.{ProcState}
 use Rattle.lock_manager.specs.State.{State, opening_state}
-use Rattle.lock_manager.specs.ManagerView.{StandsFor, processes_of, state_at}
-use Rattle.session_core.specs.Event.{Event}
-use Rattle.session_core.specs.Mail.{requests_sent}
-use Rattle.session_core.specs.Runs.{IsRun, Leads}
+use Rattle.lock_manager.specs.ManagerView.{StandsFor}
+use Rattle.session_core.specs.Runs.{Leads}
 use Rattle.session_core.specs.Draining.{DrainsFrom, TakesMail}
-use Rattle.session_core.specs.SessionView.{manager_of, events_in}
-use Rattle.script_core.specs.declared.TheConstants.{SCRIPT_MAX}
 use Rattle.script_core.specs.declared.script.ScriptFault.{ScriptFault}
-use Rattle.script_core.specs.ScriptText.{Meaning}
-use Rattle.script_core.specs.ReportText.{IsReport, AreCounts}
-use Rattle.script_core.specs.Output.{processes_in}
 use Rattle.script_core.specs.declared.states.States.{States}
 use Rattle.script_core.specs.Explaining.{ExplainsRun, IsExplained, untaken_lines}
 use Rattle.replay_core.specs.declared.replays.Ran.{Ran}

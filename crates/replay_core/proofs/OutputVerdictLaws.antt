@@ -1,6 +1,6 @@
 -- An output is judged legal: for `outputs_are_judged_legal`.
-use Rattle.std.proofs.lemmas.Grind.{common_steps}
-use Rattle.std.proofs.Common.{rules, ◌≡◌, ◌≤◌, ℕ, ◌==◌, Bool, true, false, not, ◌&&◌, List, [], ◌∷◌, ◌++◌, length, length-append, codes, Ok, inl, inr, refl, sym, subst, arith, Some, None}
+use Rattle.replay_core.proofs.Common.{common_steps, rules, ◌≡◌, ◌≤◌, ℕ, ◌==◌, true, false, ◌&&◌, List, [], ◌∷◌, ◌++◌, length, length-append, Ok, inl, inr, refl, sym, subst, arith, Some, None, Rules, lines_of, journal_start, journal_limit}
+use Rattle.std.proofs.Common.{Bool, not, codes}
 use Rattle.std.specs.List.{AllByRecursion as Each, list_all}
 use Rattle.std.proofs.lemmas.Bool.{le-ltb}
 use Rattle.std.proofs.lemmas.List.Elements.{All-from_recursion}
@@ -8,18 +8,16 @@ use Rattle.fd_table.specs.declared.Limits.{Limits}
 use Rattle.fd_table.specs.declared.Limits.TheVariants.{Small, Wide}
 use Rattle.wait_core.specs.declared.Policy.{Policy}
 use Rattle.wait_core.specs.declared.Policy.TheVariants.{Held, Queue}
-use Rattle.lock_manager.specs.declared.request.Rules.{Rules}
 use Rattle.script_core.specs.declared.header.Header.{Header}
 use Rattle.script_core.specs.declared.place.Stage.TheVariants as stages
 use Rattle.script_core.specs.declared.place.Place.{Place}
 use Rattle.script_core.specs.declared.place.JournalLine.TheVariants as lines
 use Rattle.script_core.specs.HeaderText.{policy_word, limits_word}
-use Rattle.script_core.specs.Words.{lines_of}
-use Rattle.script_core.specs.JournalReading.{JournalGives, JournalLineGives, journal_start, opening_place}
+use Rattle.script_core.specs.JournalReading.{JournalGives, JournalLineGives, opening_place}
 use Rattle.script_core.specs.JournalReading as journals
 use Rattle.script_core.specs.Output.{OutputsAreShort, output_limit}
 use Rattle.script_core.specs.OutputReading.{OutputsAreLegal}
-use Rattle.replay_core.specs.Checks.{JournalComes, Legal, OutputsAreJudgedLegal, header_lines, journal_limit}
+use Rattle.replay_core.specs.Checks.{JournalComes, Legal, OutputsAreJudgedLegal, header_lines}
 use Rattle.replay_core.proofs.CheckingLemmas.{InLine, lines_first}
 use Rattle.replay_core.proofs.VerdictLaws.{legal_of}
 

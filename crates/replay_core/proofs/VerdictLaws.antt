@@ -1,16 +1,14 @@
 -- A journal has one verdict, which is of its end: for `journals_have_one_verdict`.
-use Rattle.std.proofs.Common.{arith, ◌≡◌, ℕ, ◌+◌, List, [], ◌∷◌, length, nat_lt, Bool, true, false, MatchBool, MatchResult, Result, Ok, Err, inl, inr, refl, sym, ap, ◌∙◌, subst}
-use Rattle.std.proofs.lemmas.Grind.{common_steps}
+use Rattle.replay_core.proofs.Common.{arith, ◌≡◌, ℕ, ◌+◌, List, [], ◌∷◌, length, true, false, Result, Ok, Err, inl, inr, refl, sym, ap, ◌∙◌, subst, common_steps, Cause, lines_of, journal_start, Verdict, LinesCome, journal_limit}
+use Rattle.std.proofs.Common.{nat_lt, Bool, MatchBool, MatchResult}
 use Rattle.range_core.specs.Facts.{MatchFact}
 use Rattle.script_core.specs.declared.place.JournalLine.{JournalLine}
 use Rattle.script_core.specs.declared.place.JournalLine.TheVariants as lines
-use Rattle.script_core.specs.declared.script.Cause.{Cause}
 use Rattle.script_core.specs.declared.script.Cause.TheVariants.{TooLong}
-use Rattle.script_core.specs.Words.{lines_of}
-use Rattle.script_core.specs.JournalReading.{JournalReading, JournalGives, LinesHaveOneMeaning, MayGoOn, MayEnd, journal_start, reading_behind}
+use Rattle.script_core.specs.JournalReading.{JournalReading, JournalGives, LinesHaveOneMeaning, MayGoOn, MayEnd, reading_behind}
 use Rattle.script_core.specs.JournalReading as journals
 use Rattle.script_core.specs.JournalView.{OneIsTold}
-use Rattle.replay_core.specs.Checks.{Verdict, Legal, Illegal, Faulty, IsIllegalAt, LinesCome, JournalsHaveOneVerdict, VerdictsAreOfEnds, end_of, journal_limit}
+use Rattle.replay_core.specs.Checks.{Legal, Illegal, Faulty, IsIllegalAt, JournalsHaveOneVerdict, VerdictsAreOfEnds, end_of}
 
 -- one of two facts, of which one holds, decides
 decided : {X : Type 0} (Fact : Type 0) (P Q : X → Type 0) → ((a b : X) → P a → P b → a ≡ b) → ((a b : X) → Q a → Q b → a ≡ b)

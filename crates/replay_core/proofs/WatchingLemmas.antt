@@ -1,14 +1,7 @@
 -- What a watch was told of the callers, one after another and all together: for `Caller::converse`, `gather_all` and `replay_threads`.
-use Rattle.std.proofs.Common.{◌≡◌, ◌∙◌, inl, inr, ap, sym, subst, ℕ, ◌-◌, List, [], ◌∷◌, ◌++◌, length, arith}
-use Rattle.session_core.specs.Event.{Event}
-use Rattle.session_core.specs.Mail.{IsPrefixOf, requests_taken}
-use Rattle.lock_manager.specs.declared.request.Request.{Request}
-use Rattle.call_table.specs.Shown.{client_view}
-use Rattle.script_core.specs.ScriptText.{Meaning}
-use Rattle.script_core.specs.Output.{processes_in}
-use Rattle.replay_core.specs.declared.caller.Caller.{Caller}
-use Rattle.replay_core.specs.Callers.{SameCaller, WasTold, AreOf}
-use Rattle.replay_core.specs.Gathering.{HasLeft, AreToldOf}
+use Rattle.replay_core.proofs.Common.{◌≡◌, ◌∙◌, inl, inr, ap, sym, subst, ℕ, ◌-◌, List, [], ◌∷◌, ◌++◌, length, arith, Event, IsPrefixOf, requests_taken, Request, client_view, Meaning, processes_in, Caller, SameCaller, AreOf, AreToldOf}
+use Rattle.replay_core.specs.Callers.{WasTold}
+use Rattle.replay_core.specs.Gathering.{HasLeft}
 use Rattle.replay_core.specs.Watching.{IsToldOf, IsWatched, AreWatched}
 use Rattle.replay_core.proofs.ListLemmas.{item_of_grown}
 use Rattle.replay_core.proofs.GatheringLemmas.{some_at}

@@ -1,26 +1,14 @@
 -- A line of a journal has one answer: one meaning, and one text of what is there in its place; for `lines_have_one_answer`.
-use Rattle.std.proofs.lemmas.Grind.{common_steps}
-use Rattle.std.proofs.Common.{rules, ◌≡◌, ℕ, ◌+◌, ◌≤◌, ◌==◌, List, [], ◌∷◌, ◌++◌, All, length, drop, inl, inr, codes, Some, IfSome, slice_get, refl, sym, ap, ◌∙◌, subst, arith, eq-eqb}
+use Rattle.script_core.proofs.Common.{common_steps, rules, ◌≡◌, ℕ, ◌+◌, ◌≤◌, ◌==◌, List, [], ◌∷◌, ◌++◌, All, length, drop, inl, inr, codes, Some, IfSome, slice_get, refl, sym, ap, ◌∙◌, subst, arith, eq-eqb, filter-append, recursion_from_All}
+use Rattle.script_core.proofs.Common.{LocksHaveOneReport, Rules, Note, State, StepHasOneOutcome, Event, Leads, IsStep, IsRun, events_of, Place, ReportLine, entry_text, AreTextsOf, HasFewTaken, first_due, rules_at, processes_at, AreLeft}
 use Rattle.std.proofs.lemmas.List.{length-drop}
-use Rattle.std.proofs.lemmas.List.Elements.{filter-append, recursion_from_All}
-use Rattle.lock_book.specs.OneReport.{LocksHaveOneReport}
-use Rattle.lock_manager.specs.declared.request.Rules.{Rules}
-use Rattle.lock_manager.specs.declared.request.Note.{Note}
-use Rattle.lock_manager.specs.State.{State}
-use Rattle.lock_manager.specs.OneOutcome.{StepHasOneOutcome}
 use Rattle.session_core.specs.declared.check.Expected.{Expected}
 use Rattle.session_core.specs.declared.check.Expected.TheVariants.{NoRequest, NumberAfter, Notes}
-use Rattle.session_core.specs.Event.{Event}
-use Rattle.session_core.specs.Runs.{Leads, IsStep, IsRun, events_of}
 use Rattle.session_core.specs.Legality.{IsIllegal, WouldHave}
-use Rattle.script_core.specs.declared.place.Place.{Place}
 use Rattle.script_core.specs.declared.place.JournalLine.TheVariants as lines
-use Rattle.script_core.specs.declared.report.ReportLine.{ReportLine}
-use Rattle.script_core.specs.EntryText.{entry_text}
 use Rattle.script_core.specs.ExpectedText.{expected_text, due_text}
-use Rattle.script_core.specs.ReportReading.{AreTextsOf, HasFewTaken, first_due}
-use Rattle.script_core.specs.JournalReading.{LinesHaveOneMeaning, rules_at, processes_at}
-use Rattle.script_core.specs.JournalView.{AreLeft, OneIsTold}
+use Rattle.script_core.specs.JournalReading.{LinesHaveOneMeaning}
+use Rattle.script_core.specs.JournalView.{OneIsTold}
 use Rattle.script_core.proofs.JournalLemmas.{one_meaning}
 use Rattle.script_core.proofs.JournalReportLemmas.{some_texts, one_report}
 

@@ -1,20 +1,9 @@
 -- Commands and their arguments: for `command_name` and `read_lock`.
-use Rattle.std.proofs.lemmas.Bool.{false_from_ne_true}
-use Rattle.std.proofs.lemmas.Grind.{common_steps}
-use Rattle.std.proofs.Common.{◌≡◌, ℕ, ◌<◌, ◌≤◌, ◌^◌, List, [], ◌∷◌, ◌++◌, length, get_or, codes, decimal, ◌⊎◌, false, ℤ, pos, FitsSigned, w64, Ok, Err, Bor, refl, sym, ap, subst, inl, inr, arith}
-use Rattle.std.specs.Fmt.{digits, signed_decimal}
+use Rattle.script_core.proofs.Common.{false_from_ne_true, common_steps, ◌≡◌, ℕ, ◌<◌, ◌≤◌, ◌^◌, List, [], ◌∷◌, ◌++◌, length, get_or, codes, decimal, ◌⊎◌, false, ℤ, pos, FitsSigned, w64, Ok, Err, Bor, refl, sym, ap, subst, inl, inr, arith, digits, signed_decimal, Lock, LkCmd, Lk, Limits, Cause, texts, lock_command_word, pid_words, Argument, AnyNumber, IsFirstBad, Says, CommandGives}
 use Rattle.std.specs.Str.{bytes_eq}
 use Rattle.std.proofs.lemmas.Slice.Eq.{bytes_eq-Decides}
-use Rattle.lock_manager.specs.declared.request.Lock.{Lock}
-use Rattle.lock_manager.specs.declared.request.LkCmd.{LkCmd}
-use Rattle.lock_manager.specs.declared.request.Request.TheVariants.{Lk}
-use Rattle.fd_table.specs.declared.Limits.{Limits}
-use Rattle.script_core.specs.declared.script.Cause.{Cause}
-use Rattle.script_core.specs.Words.{texts}
-use Rattle.script_core.specs.RequestText.{lock_command_word, lock_words, pid_words}
-use Rattle.script_core.specs.Arguments.{Argument, AnyNumber, IsBad, IsFirstBad, lock_arguments, lock_command}
-use Rattle.script_core.specs.ScriptText.{Says}
-use Rattle.script_core.specs.Reading.{CommandGives}
+use Rattle.script_core.specs.RequestText.{lock_words}
+use Rattle.script_core.specs.Arguments.{IsBad, lock_arguments, lock_command}
 
 -- a word that differs from a command's name isn't found under it
 pub not_named : (name word : List ℕ) → (word ≡ name → ⊥) → bytes_eq name word ≡ false

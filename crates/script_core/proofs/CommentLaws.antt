@@ -1,41 +1,13 @@
 -- Which lines begin with `#` and which don't, and which texts go with the lines that do: for `explanations_are_comments`.
-use Rattle.std.proofs.lemmas.Grind.{common_steps}
-use Rattle.std.proofs.Common.{rules, ℕ, zero, suc, ◌≡◌, ◌+◌, ◌-◌, ◌==◌, ◌/◌, ◌%◌, Bool, true, false, not, ◌&&◌, cond, if◌then◌else◌, Option, Some, None, List, [], ◌∷◌, ◌++◌, flat_map, codes, decimal, ℤ, refl, sym, ap, subst, ◌∙◌, arith, append_assoc, inl, inr}
-use Rattle.std.specs.List.{list_all, slice_split, join_with_byte}
-use Rattle.std.specs.Fmt.{signed_decimal, digits, digits_onto, digit_glyph}
-use Rattle.std.proofs.lemmas.Bool.{cases_Bool}
-use Rattle.std.proofs.lemmas.Bool.Decides.{nat_tests}
+use Rattle.script_core.proofs.Common.{common_steps, rules, ℕ, zero, suc, ◌≡◌, ◌+◌, ◌-◌, ◌==◌, Bool, true, false, not, ◌&&◌, cond, if◌then◌else◌, Option, Some, None, List, [], ◌∷◌, ◌++◌, flat_map, codes, decimal, ℤ, refl, sym, ap, subst, ◌∙◌, arith, append_assoc, inl, inr, list_all, slice_split, join_with_byte, signed_decimal, digits, cases_Bool, nat_tests}
+use Rattle.script_core.proofs.Common.{Mode, Kind, Whence, Owner, Held, Access, Family, Wait, Rules, LkCmd, FlockOp, Reply, Note, InTheWay, ProcState, Request, Visit, State, Visits, is_together, Event, ProcessLine, lines_of, without_empty_end, access_word, mode_word, kind_word, whence_word, op_word, lock_command_word, pid_words, nb_words, visit_words, request_text, reply_words, tag, note_text, entry_text, entry_line, held_text, held_line, wait_line, state_word, counts_text, reported_line, process_lines, line_of, IsReport, Link, step_text, next_step_text, lost, together_line, together_lines, obstacle_line, deadlock_line, loss_lines, Explains, more_text, untaken_line, untaken_lines}
+use Rattle.std.proofs.Common.{◌/◌, ◌%◌}
+use Rattle.std.specs.Fmt.{digits_onto, digit_glyph}
 use Rattle.std.proofs.lemmas.List.Folds.{list_all-append}
-use Rattle.range_core.specs.declared.Mode.{Mode}
-use Rattle.range_core.specs.declared.Kind.{Kind}
-use Rattle.range_core.specs.declared.Whence.{Whence}
-use Rattle.lock_book.specs.declared.Owner.{Owner}
-use Rattle.lock_book.specs.declared.Held.{Held}
-use Rattle.fd_table.specs.declared.Access.{Access}
-use Rattle.wait_core.specs.declared.Family.{Family}
-use Rattle.wait_core.specs.declared.Wait.{Wait}
-use Rattle.lock_manager.specs.declared.request.Rules.{Rules}
-use Rattle.lock_manager.specs.declared.request.LkCmd.{LkCmd}
-use Rattle.lock_manager.specs.declared.request.FlockOp.{FlockOp}
-use Rattle.lock_manager.specs.declared.request.Reply.{Reply}
-use Rattle.lock_manager.specs.declared.request.Note.{Note}
-use Rattle.lock_manager.specs.declared.request.InTheWay.{InTheWay}
 use Rattle.lock_manager.specs.declared.request.InTheWay.TheVariants as obstacles
-use Rattle.lock_manager.specs.declared.request.ProcState.{ProcState}
-use Rattle.lock_manager.specs.declared.request.Request.{Request}
-use Rattle.lock_manager.specs.declared.request.Visit.{Visit}
-use Rattle.lock_manager.specs.State.{State, Visits}
-use Rattle.lock_manager.specs.Sections.{is_together}
-use Rattle.session_core.specs.Event.{Event}
-use Rattle.script_core.specs.declared.report_text.ProcessLine.{ProcessLine}
-use Rattle.script_core.specs.Words.{lines_of, without_empty_end}
-use Rattle.script_core.specs.RequestText.{access_word, mode_word, kind_word, whence_word, op_word, lock_command_word, pid_words, nb_words, visit_words, request_text}
-use Rattle.script_core.specs.EntryText.{reply_words, tag, note_text, entry_text, entry_line}
-use Rattle.script_core.specs.ReportText.{owner_text, flock_word, held_text, held_line, wanted_text, wait_line, state_word, counts_text, process_line, reported_line, process_lines, line_of, IsReport}
-use Rattle.script_core.specs.declared.deadlock.Link.{Link}
-use Rattle.script_core.specs.Deadlocks.{step_text, first_step_text, next_step_text}
-use Rattle.script_core.specs.Losses.{lost}
-use Rattle.script_core.specs.Explaining.{comment, together_line, together_lines, entered_lines, lines_together, is_done, obstacle_line, deadlock_line, loss_line, loss_lines, ended_line, ended_wait, Explains, more_text, untaken_reason, never_taken_line, untaken_line, untaken_lines, is_comment_line, without_comments}
+use Rattle.script_core.specs.ReportText.{owner_text, flock_word, wanted_text, process_line}
+use Rattle.script_core.specs.Deadlocks.{first_step_text}
+use Rattle.script_core.specs.Explaining.{comment, entered_lines, lines_together, is_done, loss_line, ended_line, ended_wait, untaken_reason, never_taken_line, is_comment_line, without_comments}
 
 -- no byte ends a line
 abbrev pub goes_on : ℕ → Bool

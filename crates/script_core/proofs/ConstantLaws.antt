@@ -1,8 +1,6 @@
 -- The constants are the numbers that the definitions write, by computation.
-use Rattle.std.proofs.Common.{◌≡◌, refl}
+use Rattle.script_core.proofs.Common.{◌≡◌, refl, line_limit, script_limit, entry_limit}
 use Rattle.script_core.specs.declared.TheConstants.{LINE_MAX, ENTRY_MAX, SCRIPT_MAX}
-use Rattle.script_core.specs.Words.{line_limit, script_limit}
-use Rattle.script_core.specs.EntryReading.{entry_limit}
 
 pub longest_line : LINE_MAX ≡ line_limit
 longest_line = refl

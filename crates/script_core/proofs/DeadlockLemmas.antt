@@ -1,23 +1,17 @@
 -- The shortest cycle that a wait would close: for `cycle_of`.
-use Rattle.std.proofs.lemmas.Grind.{common_steps}
-use Rattle.std.proofs.Common.{ℕ, zero, suc, ◌≡◌, ◌+◌, ◌-◌, ◌<◌, ◌≤◌, ◌⊎◌, inl, inr, Bool, true, false, not, Option, Some, List, [], ◌∷◌, ◌++◌, Any, length, get_or, set, replicate, take, drop, refl, sym, ap, subst, ◌∙◌, arith, is_some, IsFalse, IsTrue, MatchOption, count_by, slice_get}
-use Rattle.std.proofs.Math.Seq.{drop-cons, get_or-append_seam}
-use Rattle.std.proofs.lemmas.List.{take-append-drop, get_or-take, length-take, get_or-set_other, get_or-set_same, get_or_past, get_or-replicate, length-replicate, length-set, get_or_append_left, length-append}
+use Rattle.script_core.proofs.Common.{common_steps, ℕ, zero, suc, ◌≡◌, ◌+◌, ◌-◌, ◌<◌, ◌≤◌, ◌⊎◌, inl, inr, Bool, true, false, not, Option, Some, List, [], ◌∷◌, ◌++◌, Any, length, get_or, set, take, drop, refl, sym, ap, subst, ◌∙◌, arith, is_some, IsFalse, IsTrue, MatchOption, slice_get, drop-cons, take-append-drop, length-take, cases_lt, get_or_from_slice_get, slice_get-get_or, slice_get_within}
+use Rattle.script_core.proofs.Common.{Held, Policy, Wait, IsTraditional, InTheWay, Link, Wanted, IsLockAgainst, IsWaitAgainst, IsCycle, TellsCycleIfAny, LeadsInReport}
+use Rattle.std.proofs.Common.{replicate, count_by}
+use Rattle.std.proofs.Math.Seq.{get_or-append_seam}
+use Rattle.std.proofs.lemmas.List.{get_or-take, get_or-set_other, get_or-set_same, get_or_past, get_or-replicate, length-replicate, length-set, get_or_append_left, length-append}
 use Rattle.std.proofs.lemmas.List.Sums.{sum_by-set}
-use Rattle.std.proofs.lemmas.Bool.{cases_lt}
-use Rattle.std.proofs.lemmas.Option.{get_or_from_slice_get, slice_get-get_or, slice_get_within}
-use Rattle.lock_book.specs.declared.Held.{Held}
-use Rattle.wait_core.specs.declared.Policy.{Policy}
 use Rattle.wait_core.specs.declared.Policy.TheVariants as policies
-use Rattle.wait_core.specs.declared.Wait.{Wait}
-use Rattle.wait_core.specs.Cycles.{IsChain, IsTraditional}
-use Rattle.lock_manager.specs.declared.request.InTheWay.{InTheWay}
+use Rattle.wait_core.specs.Cycles.{IsChain}
 use Rattle.lock_manager.specs.declared.request.InTheWay.TheVariants as obstacles
 use Rattle.lock_manager.specs.Asking.{IsFirstOf}
-use Rattle.script_core.specs.declared.deadlock.Link.{Link}
 use Rattle.script_core.specs.declared.deadlock.Start.{Start}
-use Rattle.script_core.specs.declared.deadlock.Start.TheVariants.{Wanted, Waiting}
-use Rattle.script_core.specs.Deadlocks.{IsLockAgainst, IsWaitAgainst, IsBlockedInReport, IsStepTo, IsLink, AreLinks, IsCycle, IsLess, TellsCycleIfAny, WaitsInReport, LeadsInReport, IsLeastLink, IsNear, IsLayer, LeadsNear, IsTight, IsLayersTo}
+use Rattle.script_core.specs.declared.deadlock.Start.TheVariants.{Waiting}
+use Rattle.script_core.specs.Deadlocks.{IsBlockedInReport, IsStepTo, IsLink, AreLinks, IsLess, WaitsInReport, IsLeastLink, IsNear, IsLayer, LeadsNear, IsTight, IsLayersTo}
 
 -- an item of which it holds is the first, where it holds of none before it
 pub first_at : {X : Type 0} (Holds : X → Type 0) (xs : List X) (i : ℕ) (x : X) → i < length xs

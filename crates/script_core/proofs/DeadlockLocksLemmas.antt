@@ -1,25 +1,12 @@
 -- The report of the locks and the list of waits tell who waits for whom: for `write_explained`, clause `ok`.
-use Rattle.std.proofs.Common.{rules, ℕ, zero, suc, ◌≡◌, ◌+◌, ◌<◌, ◌≤◌, inl, inr, Option, Some, None, List, [], ◌∷◌, ◌++◌, All, Any, length, get_or, take, drop, refl, sym, ap, subst, ◌∙◌, arith, IsFalse}
-use Rattle.std.proofs.lemmas.Grind.{common_steps}
-use Rattle.std.proofs.Math.Seq.{drop-cons, get_or-append_seam, take-append_seam}
-use Rattle.std.proofs.lemmas.Bool.{cases_lt}
-use Rattle.std.proofs.lemmas.List.{take-append-drop, get_or_append_left, get_or-append-add, length-append}
-use Rattle.std.proofs.lemmas.List.Elements.{All-append}
-use Rattle.std.proofs.lemmas.Option.{get_or_from_slice_get, slice_get-get_or, slice_get_within}
-use Rattle.range_core.specs.declared.Mode.{Mode}
-use Rattle.range_core.specs.Ranges.{Conflict, Covers, HeldConflicts}
-use Rattle.lock_book.specs.declared.Held.{Held}
-use Rattle.lock_book.specs.declared.Owner.{Owner}
-use Rattle.lock_book.specs.declared.Owner.TheVariants.{Process}
-use Rattle.lock_book.specs.Conflicts.{ByteModes, FlockModes, ProcessBlocks}
-use Rattle.lock_book.specs.Reports.{IsFileReport, AreFileReports, IsHeldReport}
-use Rattle.wait_core.specs.declared.Policy.{Policy}
-use Rattle.wait_core.specs.declared.Wait.{Wait}
+use Rattle.script_core.proofs.Common.{rules, ℕ, zero, suc, ◌≡◌, ◌+◌, ◌<◌, ◌≤◌, inl, inr, Option, Some, None, List, [], ◌∷◌, ◌++◌, All, Any, length, get_or, take, drop, refl, sym, ap, subst, ◌∙◌, arith, IsFalse, common_steps, drop-cons, take-append_seam, cases_lt, take-append-drop, All-append, get_or_from_slice_get, slice_get-get_or, slice_get_within}
+use Rattle.script_core.proofs.Common.{Mode, Covers, Held, Owner, Process, ByteModes, FlockModes, IsFileReport, AreFileReports, IsHeldReport, Policy, Wait, Locks, Link, Wanted, IsLockAgainst, LeadsInReport, IsCycle, TellsCycleIfAny}
+use Rattle.std.proofs.Math.Seq.{get_or-append_seam}
+use Rattle.std.proofs.lemmas.List.{get_or_append_left, get_or-append-add, length-append}
+use Rattle.range_core.specs.Ranges.{Conflict, HeldConflicts}
+use Rattle.lock_book.specs.Conflicts.{ProcessBlocks}
 use Rattle.wait_core.specs.Cycles.{IsBlockedByProcess, IsChain, WaitsFor, ClosesCycle}
-use Rattle.wait_core.specs.Locks.{Locks}
-use Rattle.script_core.specs.declared.deadlock.Link.{Link}
-use Rattle.script_core.specs.declared.deadlock.Start.TheVariants.{Wanted}
-use Rattle.script_core.specs.Deadlocks.{IsLockAgainst, IsBlockedInReport, WaitsInReport, LeadsInReport, IsCycle, TellsCycle, TellsCycleIfAny}
+use Rattle.script_core.specs.Deadlocks.{IsBlockedInReport, WaitsInReport, TellsCycle}
 
 -- a line of a byte lock says what its owner has on each byte that it covers
 abbrev SaysLock : (ℕ → ByteModes) → Held → Type 0

@@ -1,38 +1,11 @@
 -- What a step that is refused with EDEADLK has found: for `write_explained`, clause `ok`.
 use Rattle.script_core.proofs.FitLemmas.{blocked_at}
 use Rattle.script_core.proofs.OutcomeFitLemmas.{by_bool}
-use Rattle.std.proofs.Common.{arith, rules, ℕ, ◌≡◌, ◌||◌, Bool, true, false, Option, Some, Result, Ok, List, [], ◌∷◌, ◌++◌, refl, MatchOption, MatchResult}
-use Rattle.std.proofs.lemmas.Grind.{common_steps}
-use Rattle.range_core.specs.declared.Mode.{Mode}
-use Rattle.range_core.specs.declared.Span.{Span}
-use Rattle.range_core.specs.declared.RangeFault.{RangeFault}
-use Rattle.range_core.specs.Resolving.{resolution}
-use Rattle.fd_table.specs.declared.FdFault.{FdFault}
-use Rattle.fd_table.specs.declared.tables.Look.{Look}
-use Rattle.fd_table.specs.Descriptors.{look_at}
-use Rattle.wait_core.specs.declared.Policy.{Policy}
-use Rattle.wait_core.specs.declared.Wait.{Wait}
-use Rattle.wait_core.specs.Cycles.{IsTraditional, ClosesCycle}
-use Rattle.lock_manager.specs.declared.request.Rules.{Rules}
-use Rattle.lock_manager.specs.declared.request.Lock.{Lock}
-use Rattle.lock_manager.specs.declared.request.LkCmd.{LkCmd}
-use Rattle.lock_manager.specs.declared.request.FlockOp.{FlockOp}
-use Rattle.lock_manager.specs.declared.request.Reply.{Reply}
-use Rattle.lock_manager.specs.declared.request.Note.{Note}
-use Rattle.lock_manager.specs.declared.request.Request.{Request}
-use Rattle.lock_manager.specs.declared.request.Request.TheVariants.{OpenFile, Dup, DupTo, CloseFd, Seek, Resize, Lk, Flock, Fork, Exit, Signal, Kill, Enter, Leave, Bail}
-use Rattle.lock_manager.specs.declared.request.ProcState.{ProcState}
-use Rattle.lock_manager.specs.State.{State, locks_held, opening_state}
-use Rattle.lock_manager.specs.Settling.{IsSettled, Settles}
-use Rattle.lock_manager.specs.Outcomes.{Outcome, IsRefusal, answered, refused, range_error}
-use Rattle.lock_manager.specs.LockWords.{is_get, is_bad_argument, wanted_mode, permits, wanted_lock}
-use Rattle.lock_manager.specs.LockCommands.{CommandComesTo, DescribedComesTo}
-use Rattle.lock_manager.specs.FlockCalls.{FlockTestComesTo, FlockOpComesTo}
-use Rattle.lock_manager.specs.ProcessCalls.{SignalComesTo, KillOtherComesTo}
-use Rattle.lock_manager.specs.Asking.{AsksFor, AsksForBytes}
-use Rattle.lock_manager.specs.Sections.{may_enter, may_leave}
-use Rattle.lock_manager.specs.Step.{ComesTo, Step}
-use Rattle.script_core.specs.Explaining.{is_edeadlk, is_deadlock}
+use Rattle.script_core.proofs.Common.{arith, rules, ℕ, ◌≡◌, ◌||◌, Bool, true, false, Option, Some, Result, Ok, List, [], ◌∷◌, ◌++◌, refl, MatchOption, MatchResult, common_steps}
+use Rattle.script_core.proofs.Common.{Mode, Span, RangeFault, resolution, FdFault, Look, look_at, Policy, Wait, IsTraditional, Rules, Lock, LkCmd, FlockOp, Reply, Note, Request, OpenFile, Dup, DupTo, CloseFd, Seek, Resize, Lk, Flock, Fork, Exit, Signal, Kill, Enter, Leave, Bail, ProcState, State, locks_held, opening_state, IsSettled, Settles, Outcome, IsRefusal, answered, refused, range_error, is_get, is_bad_argument, wanted_mode, permits, wanted_lock, CommandComesTo, DescribedComesTo, FlockTestComesTo, FlockOpComesTo, SignalComesTo, KillOtherComesTo, AsksFor, may_enter, may_leave, ComesTo, Step, is_deadlock}
+use Rattle.wait_core.specs.Cycles.{ClosesCycle}
+use Rattle.lock_manager.specs.Asking.{AsksForBytes}
+use Rattle.script_core.specs.Explaining.{is_edeadlk}
 
 -- a settled state stays
 stays_settled : (policy : Policy) (S : State) (grants : List Note) (T : State) → IsSettled policy S → Settles policy S grants T → T ≡ S

@@ -1,32 +1,18 @@
 -- The line of an entry is read in one way: for `parse_entry`, `read_notes`, `read_pieces` and `tag_of`.
-use Rattle.std.proofs.Common.{arith, rules, ◌≡◌, ◌≢◌, ℕ, ◌+◌, ◌<◌, ◌^◌, ◌==◌, true, false, cond, List, [], ◌∷◌, ◌++◌, length, take, drop, get_or, codes, decimal, Option, Some, None, MatchOption, MatchResult, Result, Ok, Err, Bor, ◌⊎◌, inl, inr, refl, sym, ap, ◌∙◌, subst, lit<, ne_eqb, append_assoc, drop-cons, add-one, All, bytes_eq}
-use Rattle.std.proofs.lemmas.Grind.{common_steps, get_or_default_zero}
-use Rattle.std.specs.List.{slice_split}
-use Rattle.std.proofs.lemmas.Fmt.{decimal_injective, decimal_is_IsNumeral}
-use Rattle.std.proofs.lemmas.List.{map-append, take-append-drop}
-use Rattle.std.proofs.lemmas.List.Splits.{slice_split_none, slice_split_at}
+use Rattle.script_core.proofs.Common.{arith, rules, ◌≡◌, ◌≢◌, ℕ, ◌+◌, ◌<◌, ◌^◌, ◌==◌, true, false, cond, List, [], ◌∷◌, ◌++◌, length, take, drop, get_or, codes, decimal, Option, Some, None, MatchOption, MatchResult, Result, Ok, Err, Bor, ◌⊎◌, inl, inr, refl, sym, ap, ◌∙◌, subst, lit<, ne_eqb, append_assoc, add-one, All, bytes_eq, common_steps, slice_split, decimal_injective, decimal_is_IsNumeral, take-append-drop, slice_split_none}
+use Rattle.script_core.proofs.Common.{Mode, Limits, Errno, EBADF, EINVAL, Request, Reply, Note, Answer, Event, Taken, Cause, Word, Count, texts, words_of, mode_word, reply_words, tag, Argument, AnyNumber, ErrorWord, Spells, AreRefused, Command, RequestGives, pieces_of, RequestIsTaken, TakenGives, IsWritableReply, ReplyWordsGive, ReplyGives, WaitGives, ToldGives, NoteGives, NotesGive}
+use Rattle.std.proofs.Common.{drop-cons}
+use Rattle.std.proofs.lemmas.Grind.{get_or_default_zero}
+use Rattle.std.proofs.lemmas.List.{map-append}
+use Rattle.std.proofs.lemmas.List.Splits.{slice_split_at}
 use Rattle.std.proofs.lemmas.Str.Parse.{digit_at}
 use Rattle.std.proofs.lemmas.Str.Pattern.{IsSplitOnceResult, split_parts, split_after}
-use Rattle.range_core.specs.declared.Mode.{Mode}
 use Rattle.range_core.specs.declared.Mode.TheVariants as modes
-use Rattle.fd_table.specs.declared.Limits.{Limits}
-use Rattle.lock_manager.specs.declared.request.Errno.{Errno}
-use Rattle.lock_manager.specs.declared.request.Errno.TheVariants.{EBADF, EINVAL, EOVERFLOW, EAGAIN, EDEADLK, EINTR, EMFILE, ESRCH}
-use Rattle.lock_manager.specs.declared.request.Request.{Request}
-use Rattle.lock_manager.specs.declared.request.Reply.{Reply}
+use Rattle.lock_manager.specs.declared.request.Errno.TheVariants.{EOVERFLOW, EAGAIN, EDEADLK, EINTR, EMFILE, ESRCH}
 use Rattle.lock_manager.specs.declared.request.Reply.TheVariants as replies
-use Rattle.lock_manager.specs.declared.request.Note.{Note}
-use Rattle.lock_manager.specs.declared.request.Note.TheVariants.{Answer}
-use Rattle.session_core.specs.Event.{Event}
-use Rattle.script_core.specs.declared.entry.Taken.{Taken}
-use Rattle.script_core.specs.declared.script.Cause.{Cause}
-use Rattle.script_core.specs.declared.script.Cause.TheVariants.{Word, Count}
-use Rattle.script_core.specs.Words.{texts, words_of}
-use Rattle.script_core.specs.RequestText.{mode_word}
-use Rattle.script_core.specs.EntryText.{error_name, reply_words, tag}
-use Rattle.script_core.specs.Arguments.{Argument, DescriptorNumber, AnyNumber, UnsignedNumber, ModeWord, ErrorWord, Spells, AreRefused, Command}
-use Rattle.script_core.specs.Reading.{RequestGives}
-use Rattle.script_core.specs.EntryReading.{pieces_of, IsTag, TagGives, RequestIsTaken, TakenGives, IsWritableReply, IsReply, reply_named, ReplyWordsGive, ReplyGives, WaitGives, ToldGives, NoteGives, NotesGive, EventGives, PiecesGive, HasOneEntry, BeginWithNote}
+use Rattle.script_core.specs.EntryText.{error_name}
+use Rattle.script_core.specs.Arguments.{DescriptorNumber, UnsignedNumber, ModeWord}
+use Rattle.script_core.specs.EntryReading.{IsTag, TagGives, IsReply, reply_named, EventGives, PiecesGive, HasOneEntry, BeginWithNote}
 use Rattle.script_core.proofs.NumberLemmas.{digits_value-spelled, number_in-spelled}
 use Rattle.script_core.proofs.ReadingLemmas.{MatchBool-unique, same_value, small_process, natural_at, number_at, AllSpell, not_bad, AreRefused-unique, RequestGives-unique}
 

@@ -1,26 +1,12 @@
 -- The line that is written of an entry is read as that entry: for `write_entry`.
-use Rattle.std.proofs.lemmas.List.Elements.{All-head, All-tail}
-use Rattle.std.proofs.lemmas.Grind.{common_steps}
-use Rattle.std.proofs.Common.{◌≡◌, ℕ, ◌*◌, ◌^◌, ◌<◌, ◌≤◌, ◌==◌, ◌&&◌, nat_le, true, false, not, List, [], ◌∷◌, ◌++◌, length, filter, flat_map, codes, decimal, Ok, inr, refl, sym, ap, ◌∙◌, subst, arith, lit<, lit≤, length-append, append_assoc, append-nil, All, bytes_eq}
-use Rattle.std.specs.List.{slice_split, join_with_byte, list_all}
-use Rattle.std.proofs.lemmas.Fmt.{length-decimal-le}
-use Rattle.std.proofs.lemmas.Bool.{le-ltb}
-use Rattle.std.proofs.lemmas.Bool.Decides.{nat_tests}
-use Rattle.range_core.specs.declared.Mode.{Mode}
+use Rattle.script_core.proofs.Common.{All-head, All-tail, common_steps, ◌≡◌, ℕ, ◌*◌, ◌^◌, ◌<◌, ◌≤◌, ◌==◌, ◌&&◌, nat_le, true, false, not, List, [], ◌∷◌, ◌++◌, length, filter, flat_map, codes, decimal, Ok, inr, refl, sym, ap, ◌∙◌, subst, arith, lit<, lit≤, length-append, append_assoc, append-nil, All, bytes_eq, slice_split, join_with_byte, list_all, length-decimal-le, le-ltb, nat_tests}
+use Rattle.script_core.proofs.Common.{Mode, Limits, Errno, EBADF, EINVAL, Reply, Note, Answer, Event, words_of, is_printable, mode_word, request_words, reply_words, tag, note_text, IsProcess, IsWritable, entry_limit, pieces_of, TakenGives, IsWritableReply, ReplyGives, ToldGives, NoteGives, NotesGive, IsWritableNote}
 use Rattle.range_core.specs.declared.Mode.TheVariants as modes
-use Rattle.fd_table.specs.declared.Limits.{Limits}
-use Rattle.lock_manager.specs.declared.request.Errno.{Errno}
-use Rattle.lock_manager.specs.declared.request.Errno.TheVariants.{EBADF, EINVAL, EOVERFLOW, EAGAIN, EDEADLK, EINTR, EMFILE, ESRCH}
-use Rattle.lock_manager.specs.declared.request.Reply.{Reply}
+use Rattle.lock_manager.specs.declared.request.Errno.TheVariants.{EOVERFLOW, EAGAIN, EDEADLK, EINTR, EMFILE, ESRCH}
 use Rattle.lock_manager.specs.declared.request.Reply.TheVariants as replies
-use Rattle.lock_manager.specs.declared.request.Note.{Note}
-use Rattle.lock_manager.specs.declared.request.Note.TheVariants.{Answer, Waits}
-use Rattle.session_core.specs.Event.{Event}
-use Rattle.script_core.specs.Words.{words_of, is_printable}
-use Rattle.script_core.specs.RequestText.{mode_word, request_words}
-use Rattle.script_core.specs.EntryText.{error_name, reply_words, reply_text, tag, note_text}
-use Rattle.script_core.specs.ScriptText.{IsProcess, IsWritable}
-use Rattle.script_core.specs.EntryReading.{entry_limit, pieces_of, TakenGives, IsWritableReply, ReplyGives, ToldGives, NoteGives, NotesGive, PiecesGive, EntryGives, IsWritableNote, IsEntryReadBack}
+use Rattle.lock_manager.specs.declared.request.Note.TheVariants.{Waits}
+use Rattle.script_core.specs.EntryText.{error_name, reply_text}
+use Rattle.script_core.specs.EntryReading.{PiecesGive, EntryGives, IsEntryReadBack}
 use Rattle.script_core.proofs.RoundTripLemmas.{AreVisible, IsWord, AreWords, IsWord-tested, IsWord-decimal, IsWord-process, IsWord-descriptor, IsWord-signed_decimal, AreWords-request_words, slice_split-words, words_of-join, not_empty, more_length, length-join, length-process, length-descriptor, length-signed_decimal, more_length-request_words, gives_request, join_cons}
 
 -- each byte is a space or one that words have

@@ -1,47 +1,14 @@
 -- The run that is made again, step by step: for `write_explained`, clause `ok`.
-use Rattle.std.proofs.lemmas.Grind.{common_steps}
-use Rattle.std.proofs.Common.{rules, ℕ, zero, suc, ◌≡◌, ◌+◌, ◌-◌, ◌<◌, ◌≤◌, Option, Bool, List, [], ◌∷◌, ◌++◌, length, All, inl, inr, take, drop, get_or, refl, sym, ap, subst, ◌∙◌, arith, append_assoc, append-nil, add-one, Result, true, IfOk, MatchResult, OnErr, OnOk, if◌then◌else◌, codes, decimal, slice_index}
-use Rattle.std.proofs.Math.Seq.{drop-cons, take-append_seam}
-use Rattle.std.proofs.lemmas.List.{take_more, take_all, length-take}
-use Rattle.std.proofs.lemmas.Bool.{cases_Bool}
-use Rattle.fd_table.specs.declared.TheConstants.{FILES}
-use Rattle.fd_table.specs.Descriptors.{descriptor_limit}
-use Rattle.lock_book.specs.declared.Held.{Held}
-use Rattle.lock_book.specs.Changes.{mode_in, flock_mode_in}
-use Rattle.lock_book.specs.Reports.{IsHeldReport}
-use Rattle.wait_core.specs.declared.Policy.{Policy}
-use Rattle.wait_core.specs.declared.Wait.{Wait}
-use Rattle.wait_core.specs.Cycles.{IsTraditional}
-use Rattle.lock_manager.specs.declared.request.Rules.{Rules}
-use Rattle.lock_manager.specs.declared.request.Lock.{Lock}
-use Rattle.lock_manager.specs.declared.request.LkCmd.{LkCmd}
-use Rattle.lock_manager.specs.declared.request.FlockOp.{FlockOp}
-use Rattle.lock_manager.specs.declared.request.Note.{Note}
-use Rattle.lock_manager.specs.declared.request.InTheWay.{InTheWay}
-use Rattle.lock_manager.specs.declared.request.Request.{Request}
-use Rattle.lock_manager.specs.declared.request.Request.TheVariants.{OpenFile, Dup, DupTo, CloseFd, Seek, Resize, Lk, Flock, Fork, Exit, Signal, Kill, Enter, Leave, Bail}
-use Rattle.lock_manager.specs.declared.manager.Manager.{Manager}
-use Rattle.lock_manager.specs.declared.request.Visit.{Visit}
-use Rattle.lock_manager.specs.State.{State, Visits, opening_state, locks_held}
-use Rattle.lock_manager.specs.Sections.{is_together}
-use Rattle.lock_manager.specs.Settling.{IsSettled}
-use Rattle.lock_manager.specs.Step.{Step}
-use Rattle.lock_manager.specs.Asking.{AsksFor, AsksForBytes, AsksForWhole}
-use Rattle.lock_manager.specs.OneOutcome.{StepHasOneOutcome}
-use Rattle.lock_manager.specs.ManagerView.{StandsFor, rules_of, processes_of}
-use Rattle.session_core.specs.Event.{Event}
-use Rattle.session_core.specs.Runs.{IsStep, Leads}
-use Rattle.script_core.specs.EntryText.{entry_line, tag}
-use Rattle.script_core.specs.Output.{Extends}
-use Rattle.script_core.specs.declared.deadlock.Link.{Link}
-use Rattle.script_core.specs.declared.states.States.{States}
-use Rattle.script_core.specs.declared.state_lines.StateLine.{StateLine}
-use Rattle.script_core.specs.StateText.{IsKept, TellsState}
+use Rattle.script_core.proofs.Common.{common_steps, rules, ℕ, zero, suc, ◌≡◌, ◌+◌, ◌-◌, ◌<◌, ◌≤◌, Option, Bool, List, [], ◌∷◌, ◌++◌, length, All, inl, inr, take, drop, get_or, refl, sym, ap, subst, ◌∙◌, arith, append_assoc, append-nil, add-one, Result, true, MatchResult, if◌then◌else◌, codes, decimal, slice_index, drop-cons, take-append_seam, take_all, length-take, cases_Bool}
+use Rattle.script_core.proofs.Common.{FILES, descriptor_limit, Held, mode_in, flock_mode_in, IsHeldReport, Policy, Wait, IsTraditional, Rules, Lock, LkCmd, FlockOp, Note, InTheWay, Request, OpenFile, Dup, DupTo, CloseFd, Seek, Resize, Lk, Flock, Fork, Exit, Signal, Kill, Enter, Leave, Bail, Manager, Visit, State, Visits, opening_state, locks_held, is_together, IsSettled, Step, AsksFor, StepHasOneOutcome, StandsFor, processes_of, Event, IsStep, Leads, entry_line, tag, Extends, Link, States, StateLine, TellsState, IsWithinFiles, TellsCycleIfAny, closed_by, lost, is_deadlock, obstacle_line, deadlock_line, loss_lines, Explains, ExplainsRun, together_line, together_lines}
+use Rattle.std.proofs.Common.{IfOk, OnErr, OnOk}
+use Rattle.std.proofs.lemmas.List.{take_more}
+use Rattle.lock_manager.specs.Asking.{AsksForBytes, AsksForWhole}
+use Rattle.lock_manager.specs.ManagerView.{rules_of}
+use Rattle.script_core.specs.StateText.{IsKept}
 use Rattle.script_core.proofs.StateLemmas.{StateTold}
-use Rattle.script_core.specs.Files.{IsWithinFiles}
-use Rattle.script_core.specs.Deadlocks.{TellsCycleIfAny}
-use Rattle.script_core.specs.Losses.{closed_by, AreReleased, lost}
-use Rattle.script_core.specs.Explaining.{comment, is_deadlock, obstacle_line, deadlock_line, TellsDeadlock, IsCycleOf, loss_lines, ended_line, ended_wait, StandsInTheWay, Explains, ExplainsRun, lines_together, together_line, together_lines}
+use Rattle.script_core.specs.Losses.{AreReleased}
+use Rattle.script_core.specs.Explaining.{comment, TellsDeadlock, IsCycleOf, ended_line, ended_wait, StandsInTheWay, lines_together}
 use Rattle.script_core.proofs.TextLemmas.{kept_behind}
 use Rattle.script_core.proofs.DeadlockLocksLemmas.{told_of_state, none_of_state}
 use Rattle.script_core.proofs.DeadlockStepLemmas.{HasClosed, step_closes}

@@ -1,14 +1,6 @@
 -- An explained run without the lines that begin with `#` is the run: for `explanations_are_comments`.
-use Rattle.std.proofs.Common.{arith, ℕ, ◌≡◌, ◌+◌, List, [], ◌∷◌, ◌++◌, length, flat_map, sym, ap, ◌∙◌, append_assoc, append-nil}
-use Rattle.std.proofs.lemmas.Grind.{common_steps}
-use Rattle.lock_manager.specs.declared.request.Rules.{Rules}
-use Rattle.lock_manager.specs.State.{State}
-use Rattle.session_core.specs.Event.{Event}
-use Rattle.session_core.specs.Mail.{requests_sent}
-use Rattle.script_core.specs.declared.states.States.{States}
-use Rattle.script_core.specs.EntryText.{entry_line}
-use Rattle.script_core.specs.Output.{processes_in}
-use Rattle.script_core.specs.Explaining.{ExplainsRun, untaken_lines, without_comments, ExplanationsAreComments}
+use Rattle.script_core.proofs.Common.{arith, ℕ, ◌≡◌, ◌+◌, List, [], ◌∷◌, ◌++◌, length, flat_map, sym, ap, ◌∙◌, append_assoc, append-nil, common_steps, Rules, State, Event, requests_sent, States, entry_line, processes_in, ExplainsRun, untaken_lines}
+use Rattle.script_core.specs.Explaining.{without_comments, ExplanationsAreComments}
 use Rattle.script_core.proofs.CommentLaws.{plain_entry, plain_report, comment_own, comment_all_untaken}
 use Rattle.script_core.proofs.StateCommentLaws.{comment_told}
 

@@ -1,20 +1,11 @@
 -- A line, and the pieces of an entry's line, are never refused for want of memory: for `ScriptReader::read_line`, `read_notes` and
 -- `read_pieces`.
-use Rattle.std.proofs.Common.{arith, ◌≡◌, ℕ, ◌∙◌, sym, subst, inl, inr, List, [], ◌∷◌, length, Option, Some, None, Result, Ok, Err, MatchOption, MatchResult, ◌⊎◌}
-use Rattle.std.proofs.lemmas.Grind.{common_steps}
-use Rattle.fd_table.specs.declared.Limits.{Limits}
-use Rattle.lock_manager.specs.declared.request.Request.{Request}
-use Rattle.lock_manager.specs.declared.request.Reply.{Reply}
-use Rattle.lock_manager.specs.declared.request.Note.{Note}
-use Rattle.lock_manager.specs.declared.request.Note.TheVariants.{Answer}
-use Rattle.script_core.specs.declared.entry.Taken.{Taken}
-use Rattle.script_core.specs.declared.line.Line.{Line}
+use Rattle.script_core.proofs.Common.{arith, ◌≡◌, ℕ, ◌∙◌, sym, subst, inl, inr, List, [], ◌∷◌, length, Option, Some, None, Result, Ok, Err, MatchOption, MatchResult, ◌⊎◌, common_steps}
+use Rattle.script_core.proofs.Common.{Limits, Request, Reply, Note, Answer, Taken, Line, Cause, Word, Count, Argument, ErrorWord, Spells, IsFirstBad, AreRefused, Command, command_named, has_count, Reading, limits_of, is_comment, is_empty, ArgumentsGive, CommandGives, RequestGives, ArrivalGives, ProcessGives, WordsGive, LineGives, IsOfScript, RequestIsTaken, TakenGives, ReplyWordsGive, WaitGives, ToldGives, NoteGives}
 use Rattle.script_core.specs.declared.line.Line.TheVariants as lines
-use Rattle.script_core.specs.declared.script.Cause.{Cause}
-use Rattle.script_core.specs.declared.script.Cause.TheVariants.{Word, Count, Memory, Tag}
-use Rattle.script_core.specs.Arguments.{Argument, ErrorWord, cause_of, Spells, IsFirstBad, AreRefused, Command, command_named, has_count}
-use Rattle.script_core.specs.Reading.{Reading, limits_of, is_comment, is_empty, ArgumentsGive, CommandGives, RequestGives, ArrivalGives, ProcessGives, WordsGive, LineGives, IsOfScript}
-use Rattle.script_core.specs.EntryReading.{TagGives, RequestIsTaken, TakenGives, ReplyWordsGive, WaitGives, ToldGives, NoteGives}
+use Rattle.script_core.specs.declared.script.Cause.TheVariants.{Memory, Tag}
+use Rattle.script_core.specs.Arguments.{cause_of}
+use Rattle.script_core.specs.EntryReading.{TagGives}
 use Rattle.script_core.proofs.FirstWordsLemmas.{header_cases}
 use Rattle.script_core.proofs.HeaderLemmas.{MatchBool-join}
 

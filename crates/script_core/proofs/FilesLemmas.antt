@@ -1,38 +1,7 @@
 -- Each description and each wait is of one of the files, and each step keeps that: for `write_explained`, clause `ok`.
-use Rattle.std.proofs.lemmas.List.Elements.{All-head, All-tail, All-cons, All-append, All-set, All-filter}
-use Rattle.std.proofs.lemmas.Grind.{common_steps}
-use Rattle.std.proofs.Common.{rules, ℕ, zero, suc, ◌≡◌, ◌==◌, ◌<◌, ◌||◌, not, Bool, Option, Some, List, [], ◌∷◌, ◌++◌, All, sym, subst, arith, slice_get}
-use Rattle.std.proofs.lemmas.Option.{get_or_from_slice_get, slice_get_within}
-use Rattle.range_core.specs.declared.Mode.{Mode}
-use Rattle.range_core.specs.Resolving.{resolution}
-use Rattle.lock_book.specs.declared.Owner.{Owner}
-use Rattle.fd_table.specs.declared.TheConstants.{FILES}
-use Rattle.fd_table.specs.declared.FdFault.{FdFault}
-use Rattle.fd_table.specs.declared.tables.Look.{Look}
-use Rattle.fd_table.specs.Descriptors.{Descriptors, OpenFileDescription, SameDescriptors, description_numbered, look_at, opening_descriptors}
-use Rattle.wait_core.specs.declared.Family.{Family}
-use Rattle.wait_core.specs.declared.Policy.{Policy}
-use Rattle.wait_core.specs.declared.Wait.{Wait}
-use Rattle.lock_manager.specs.declared.request.Rules.{Rules}
-use Rattle.lock_manager.specs.declared.request.Lock.{Lock}
-use Rattle.lock_manager.specs.declared.request.LkCmd.{LkCmd}
-use Rattle.lock_manager.specs.declared.request.FlockOp.{FlockOp}
-use Rattle.lock_manager.specs.declared.request.Note.{Note}
-use Rattle.lock_manager.specs.declared.request.Request.{Request}
-use Rattle.lock_manager.specs.declared.request.Request.TheVariants.{OpenFile, Dup, DupTo, CloseFd, Seek, Resize, Lk, Flock, Fork, Exit, Signal, Kill, Enter, Leave, Bail}
-use Rattle.lock_manager.specs.declared.request.ProcState.{ProcState}
-use Rattle.lock_manager.specs.declared.request.ProcState.TheVariants.{Unborn, Live, Waiting, Ended}
-use Rattle.lock_manager.specs.State.{State, opening_state, with_lock_of}
-use Rattle.lock_manager.specs.Settling.{Settles, granted}
-use Rattle.lock_manager.specs.Outcomes.{Outcome, IsRefusal, waits_then}
-use Rattle.lock_manager.specs.LockWords.{is_get, is_bad_argument, wanted_mode, permits, wanted_lock}
-use Rattle.lock_manager.specs.LockCommands.{CommandComesTo, DescribedComesTo}
-use Rattle.lock_manager.specs.FlockCalls.{FlockModeComesTo, FlockOpComesTo}
-use Rattle.lock_manager.specs.ProcessCalls.{EndComesTo, SignalComesTo, KillOtherComesTo}
-use Rattle.lock_manager.specs.Asking.{AsksFor}
-use Rattle.lock_manager.specs.Sections.{may_enter, may_leave}
-use Rattle.lock_manager.specs.Step.{ComesTo, Step}
-use Rattle.script_core.specs.Files.{IsWithinFiles}
+use Rattle.script_core.proofs.Common.{All-head, All-tail, All-append, common_steps, rules, ℕ, zero, suc, ◌≡◌, ◌==◌, ◌<◌, ◌||◌, not, Bool, Option, Some, List, [], ◌∷◌, ◌++◌, All, sym, subst, arith, slice_get, get_or_from_slice_get, slice_get_within}
+use Rattle.script_core.proofs.Common.{Mode, resolution, Owner, FILES, FdFault, Look, Descriptors, OpenFileDescription, SameDescriptors, description_numbered, look_at, opening_descriptors, Family, Policy, Wait, Rules, Lock, LkCmd, FlockOp, Note, Request, OpenFile, Dup, DupTo, CloseFd, Seek, Resize, Lk, Flock, Fork, Exit, Signal, Kill, Enter, Leave, Bail, ProcState, Unborn, Live, Waiting, Ended, State, opening_state, with_lock_of, Settles, granted, Outcome, IsRefusal, waits_then, is_get, is_bad_argument, wanted_mode, permits, wanted_lock, CommandComesTo, DescribedComesTo, FlockModeComesTo, FlockOpComesTo, EndComesTo, SignalComesTo, KillOtherComesTo, AsksFor, may_enter, may_leave, ComesTo, Step, IsWithinFiles}
+use Rattle.std.proofs.lemmas.List.Elements.{All-cons, All-set, All-filter}
 use Rattle.script_core.proofs.DeadlockStepLemmas.{if_option, if_result}
 use Rattle.script_core.proofs.OutcomeFitLemmas.{by_bool}
 

@@ -1,19 +1,11 @@
 -- A line's first words: what they say, the whole line says; for `parse_text` and `Place::parse_head`.
-use Rattle.std.proofs.lemmas.Grind.{common_steps}
-use Rattle.std.proofs.Common.{◌≡◌, ℕ, ◌+◌, ◌<◌, ◌≤◌, Bool, true, false, Option, Some, None, IfSome, MatchOption, MatchResult, Result, Ok, Err, List, [], ◌∷◌, length, take, find, subst, inl, inr, arith, ⊎_elim, MatchBool, bytes_eq}
+use Rattle.script_core.proofs.Common.{common_steps, ◌≡◌, ℕ, ◌+◌, ◌<◌, ◌≤◌, Bool, true, false, Option, Some, None, IfSome, MatchOption, MatchResult, Result, Ok, Err, List, [], ◌∷◌, length, take, subst, inl, inr, arith, ⊎_elim, MatchBool, bytes_eq, cases_lt, length-take-le, take_all}
+use Rattle.script_core.proofs.Common.{Limits, Request, Header, Line, Cause, Word, Argument, Command, AreRefused, command_named, has_count, Reading, CommandGives, RequestGives, ProcessGives, WordsGive, AreSkipped, is_comment, is_empty, limits_of}
+use Rattle.std.proofs.Common.{find}
 use Rattle.std.specs.List.{AllByRecursion as Each}
-use Rattle.std.proofs.lemmas.Bool.{cases_lt}
-use Rattle.std.proofs.lemmas.List.{length-take-le, take_all}
-use Rattle.fd_table.specs.declared.Limits.{Limits}
-use Rattle.lock_manager.specs.declared.request.Request.{Request}
-use Rattle.script_core.specs.declared.header.Header.{Header}
-use Rattle.script_core.specs.declared.line.Line.{Line}
 use Rattle.script_core.specs.declared.line.Line.TheVariants as lines
-use Rattle.script_core.specs.declared.script.Cause.{Cause}
-use Rattle.script_core.specs.declared.script.Cause.TheVariants.{Word}
-use Rattle.script_core.specs.Arguments.{Argument, Command, AreRefused, commands, command_named, has_count}
+use Rattle.script_core.specs.Arguments.{commands}
 use Rattle.script_core.specs.HeaderReading.{ValueGives, HeaderGives}
-use Rattle.script_core.specs.Reading.{Reading, CommandGives, RequestGives, ProcessGives, WordsGive, AreSkipped, is_comment, is_empty, limits_of}
 
 -- one of two facts for another
 pub MatchBool-map : (b : Bool) (P Q P' Q' : Type 0) → (P → P') → (Q → Q') → MatchBool b P Q → MatchBool b P' Q'

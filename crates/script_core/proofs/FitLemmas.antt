@@ -1,36 +1,12 @@
 -- What a request comes to has numbers that a line may have: its notes, and the waits and locks that it leaves; and the notes are few; for
 -- `deadlock_of`, `outputs_are_legal`, `push_all_unborn` and others.
-use Rattle.std.proofs.Common.{rules, ◌≡◌, ◌≢◌, ℕ, zero, suc, pred, slice_get, ◌+◌, ◌^◌, ◌<◌, ◌≤◌, ◌==◌, ◌||◌, true, false, List, [], ◌∷◌, ◌++◌, length, map, filter_map, Option, Some, None, option_map, ⊎_elim, refl, sym, ap, ◌∙◌, subst, arith, eq-eqb, ne_eqb, append_assoc, append-nil}
-use Rattle.std.proofs.lemmas.Grind.{common_steps}
-use Rattle.std.specs.Prelude.{⊤, IfSome, slice_set, option_and_then}
-use Rattle.std.specs.List.{AllByRecursion as Each, IsDistinct, list_any}
-use Rattle.std.proofs.lemmas.Bool.{cases_eq}
-use Rattle.std.proofs.lemmas.Option.{slice_get_within}
+use Rattle.script_core.proofs.Common.{rules, ◌≡◌, ◌≢◌, ℕ, zero, suc, slice_get, ◌+◌, ◌^◌, ◌<◌, ◌≤◌, ◌==◌, ◌||◌, true, false, List, [], ◌∷◌, ◌++◌, length, map, Option, Some, None, option_map, ⊎_elim, refl, sym, ap, ◌∙◌, subst, arith, eq-eqb, ne_eqb, append_assoc, append-nil, common_steps, ⊤, option_and_then, list_any, cases_eq, slice_get_within}
+use Rattle.script_core.proofs.Common.{OFFMAX, Owner, Process, Description, Change, FlockChange, whole_file, FILES, Look, Limits, Descriptors, OpenFileDescription, description_limit, description_numbered, look_of, Released, Policy, Wait, Locks, IsBlocked, Note, Request, ProcState, Unborn, Live, Waiting, State, with_lock, Settles, IsSettled, granted, Outcome, marked, with_released, process_releases, description_releases, flock_releases, IsProcess, IsWritableNote}
+use Rattle.std.proofs.Common.{pred, filter_map}
+use Rattle.std.specs.Prelude.{IfSome, slice_set}
+use Rattle.std.specs.List.{AllByRecursion as Each, IsDistinct}
 use Rattle.std.proofs.lemmas.Map.Steps.{length-le_from_distinct_below}
-use Rattle.range_core.specs.declared.TheConstants.{OFFMAX}
-use Rattle.lock_book.specs.declared.Owner.{Owner}
-use Rattle.lock_book.specs.declared.Owner.TheVariants.{Process, Description}
-use Rattle.lock_book.specs.Changes.{Change, FlockChange, whole_file}
-use Rattle.fd_table.specs.declared.TheConstants.{FILES}
-use Rattle.fd_table.specs.declared.tables.Look.{Look}
-use Rattle.fd_table.specs.declared.Limits.{Limits}
-use Rattle.fd_table.specs.Descriptors.{Descriptors, OpenFileDescription, description_limit, description_numbered, look_of}
-use Rattle.fd_table.specs.Releases.{Released}
-use Rattle.wait_core.specs.declared.Policy.{Policy}
-use Rattle.wait_core.specs.declared.Wait.{Wait}
-use Rattle.wait_core.specs.Locks.{Locks}
-use Rattle.wait_core.specs.Blocking.{IsBlocked, AllBlocked}
-use Rattle.lock_manager.specs.declared.request.Note.{Note}
-use Rattle.lock_manager.specs.declared.request.Request.{Request}
-use Rattle.lock_manager.specs.declared.request.ProcState.{ProcState}
-use Rattle.lock_manager.specs.declared.request.ProcState.TheVariants.{Unborn, Live, Waiting}
-use Rattle.lock_manager.specs.State.{State, with_lock}
-use Rattle.lock_manager.specs.Settling.{Settles, IsSettled, granted}
-use Rattle.lock_manager.specs.Outcomes.{Outcome}
-use Rattle.lock_manager.specs.Sections.{marked}
-use Rattle.lock_manager.specs.DescriptorCalls.{with_released, process_releases, description_releases, flock_releases}
-use Rattle.script_core.specs.ScriptText.{IsProcess}
-use Rattle.script_core.specs.EntryReading.{IsWritableNote}
+use Rattle.wait_core.specs.Blocking.{AllBlocked}
 
 -- ---- what has such numbers
 

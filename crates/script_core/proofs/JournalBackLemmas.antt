@@ -1,22 +1,8 @@
 -- The texts of events, line by line, are read as a journal of these events: for `journals_are_read_back`.
-use Rattle.std.proofs.Common.{rules, ◌≡◌, ℕ, zero, suc, ◌+◌, ◌<◌, ◌≤◌, ◌==◌, None, Ok, Err, List, [], ◌∷◌, ◌++◌, length, map, get_or, slice_get, IfSome, flat_map, refl, sym, ap, ◌∙◌, subst, inl, arith, append_assoc, append-nil, All, nat_lt}
-use Rattle.std.proofs.lemmas.List.Elements.{All-head, All-tail, filter-append}
-use Rattle.std.proofs.lemmas.Grind.{common_steps}
-use Rattle.std.specs.List.{slice_split}
-use Rattle.fd_table.specs.declared.Limits.{Limits}
-use Rattle.lock_manager.specs.declared.request.Rules.{Rules}
-use Rattle.lock_manager.specs.State.{State, opening_state}
-use Rattle.session_core.specs.Event.{Event}
-use Rattle.session_core.specs.Runs.{Leads, events_of}
-use Rattle.script_core.specs.declared.place.Place.{Place}
+use Rattle.script_core.proofs.Common.{rules, ◌≡◌, ℕ, zero, suc, ◌+◌, ◌<◌, ◌≤◌, ◌==◌, None, Ok, Err, List, [], ◌∷◌, ◌++◌, length, map, get_or, slice_get, IfSome, flat_map, refl, sym, ap, ◌∙◌, subst, inl, arith, append_assoc, append-nil, All, nat_lt, All-head, All-tail, filter-append, common_steps, slice_split}
+use Rattle.script_core.proofs.Common.{Limits, Rules, State, opening_state, Event, Leads, events_of, Place, Byte, TooLong, request_text, tag, note_text, entry_text, words_of, is_printable, IsProcess, entry_limit, IsWritableEvent, HeadGives, JournalLineGives, JournalReading, Legal, JournalGives, IsBeforeReport, AreLegal, reading_behind, limits_at, rules_at, processes_at}
 use Rattle.script_core.specs.declared.place.JournalLine.TheVariants as lines
-use Rattle.script_core.specs.declared.script.Cause.TheVariants.{Byte, TooLong}
-use Rattle.script_core.specs.RequestText.{request_text}
-use Rattle.script_core.specs.EntryText.{tag, note_text, entry_text}
-use Rattle.script_core.specs.Words.{words_of, is_printable}
-use Rattle.script_core.specs.ScriptText.{IsProcess}
-use Rattle.script_core.specs.EntryReading.{entry_limit, IsWritableEvent}
-use Rattle.script_core.specs.JournalReading.{HeadGives, JournalLineGives, JournalReading, Legal, JournalGives, JournalsAreReadBack, EntriesAreReadBack, IsBeforeReport, AreLegal, reading_behind, limits_at, rules_at, processes_at}
+use Rattle.script_core.specs.JournalReading.{JournalsAreReadBack, EntriesAreReadBack}
 use Rattle.script_core.proofs.NumberLemmas.{BeginsPlainly-decimal}
 use Rattle.script_core.proofs.ReadingLemmas.{small_process}
 use Rattle.script_core.proofs.FirstWordsLemmas.{MatchBool-map}

@@ -1,20 +1,9 @@
 -- The lines of a journal: what their first words say, that each has one meaning, and that a journal has one end; for `journals_have_one_end`,
 -- `JournalReader::next` and `Place::parse_head`.
-use Rattle.std.proofs.Common.{rules, ◌≡◌, ℕ, ◌+◌, ◌<◌, true, Option, Some, Result, Ok, Err, List, [], ◌∷◌, length, take, refl, sym, ◌∙◌, subst, arith, MatchResult}
-use Rattle.std.proofs.lemmas.Grind.{common_steps}
-use Rattle.std.proofs.lemmas.Bool.{cases_lt}
-use Rattle.std.proofs.lemmas.List.{length-take-le, take_all}
+use Rattle.script_core.proofs.Common.{rules, ◌≡◌, ℕ, ◌+◌, ◌<◌, true, Option, Some, Result, Ok, Err, List, [], ◌∷◌, length, take, refl, sym, ◌∙◌, subst, arith, MatchResult, common_steps, cases_lt, length-take-le, take_all, Limits, Event, Stage, Place, JournalLine, Cause, words_of, AreSkipped, is_comment, HeadGives, JournalReading, Legal, JournalGives, reading_behind}
 use Rattle.range_core.specs.Facts.{MatchFact}
-use Rattle.fd_table.specs.declared.Limits.{Limits}
-use Rattle.session_core.specs.Event.{Event}
-use Rattle.script_core.specs.declared.place.Stage.{Stage}
-use Rattle.script_core.specs.declared.place.Place.{Place}
-use Rattle.script_core.specs.declared.place.JournalLine.{JournalLine}
 use Rattle.script_core.specs.declared.place.JournalLine.TheVariants as lines
-use Rattle.script_core.specs.declared.script.Cause.{Cause}
-use Rattle.script_core.specs.Words.{words_of}
-use Rattle.script_core.specs.Reading.{AreSkipped, is_comment}
-use Rattle.script_core.specs.JournalReading.{OtherGives, HeadGives, BodyGives, TextGives, HasOneMeaning, JournalReading, JournalEnd, Faulty, Illegal, Legal, JournalGives, JournalsHaveOneEnd, MayGoOn, MayEnd, reading_behind, is_header, is_report_word}
+use Rattle.script_core.specs.JournalReading.{OtherGives, BodyGives, TextGives, HasOneMeaning, JournalEnd, Faulty, Illegal, JournalsHaveOneEnd, MayGoOn, MayEnd, is_header, is_report_word}
 use Rattle.script_core.proofs.FirstWordsLemmas.{MatchBool-map, many_header}
 use Rattle.script_core.proofs.ReadingLemmas.{same_value, MatchBool-unique, HeaderGives-unique}
 use Rattle.script_core.proofs.EntryLemmas.{PiecesGive-unique}

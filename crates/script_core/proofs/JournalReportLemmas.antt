@@ -1,22 +1,12 @@
 -- The lines of a report in a journal, for `JournalReader`: whether it may go on with one, and whether it may end.
-use Rattle.std.proofs.Common.{arith, ◌≡◌, ℕ, zero, ◌<◌, ◌≤◌, ◌^◌, Bool, true, IsTrue, All, List, [], ◌∷◌, ◌++◌, Option, Some, None, MatchOption, inl, refl, sym, ap, subst, lit<, append_assoc, append-nil, suc, length}
-use Rattle.std.proofs.lemmas.Grind.{common_steps}
+use Rattle.script_core.proofs.Common.{arith, ◌≡◌, ℕ, zero, ◌<◌, ◌≤◌, ◌^◌, Bool, true, IsTrue, All, List, [], ◌∷◌, ◌++◌, Option, Some, None, MatchOption, inl, refl, sym, ap, subst, lit<, append_assoc, append-nil, suc, length, common_steps, recursion_from_All}
+use Rattle.script_core.proofs.Common.{LocksHaveOneReport, State, ProcState, Event, IsRun, Place, ProcessLine, ReportLine, is_reported, process_text, line_text, IsLineOf, MayBeLeftOut, AreTextsOf, IsFirstDue, first_due, AreReportLines, HasFewTaken, rules_at, processes_at, AreLegal, AreLeft}
 use Rattle.std.specs.List.{AllByRecursion as Each}
 use Rattle.std.proofs.lemmas.List.{drop-drop}
-use Rattle.std.proofs.lemmas.List.Elements.{All-drop, recursion_from_All}
-use Rattle.lock_book.specs.OneReport.{LocksHaveOneReport}
-use Rattle.lock_manager.specs.State.{State}
-use Rattle.lock_manager.specs.declared.request.ProcState.{ProcState}
-use Rattle.session_core.specs.Event.{Event}
-use Rattle.session_core.specs.Runs.{IsRun}
-use Rattle.script_core.specs.declared.place.Place.{Place}
-use Rattle.script_core.specs.declared.report_text.ProcessLine.{ProcessLine}
-use Rattle.script_core.specs.declared.report.ReportLine.{ReportLine}
+use Rattle.std.proofs.lemmas.List.Elements.{All-drop}
 use Rattle.script_core.specs.declared.report.ReportLine.TheVariants as lines
-use Rattle.script_core.specs.ReportText.{is_reported, process_text}
-use Rattle.script_core.specs.ReportReading.{line_text, IsLineOf, MayBeLeftOut, may_be_left_out, AreTextsOf, IsFirstDue, first_due, GoesOn, AreLastOf, AreReportLines, HasFewTaken}
-use Rattle.script_core.specs.JournalReading.{rules_at, processes_at, AreLegal, IsReportFront, IsWholeReport}
-use Rattle.script_core.specs.JournalView.{AreLeft}
+use Rattle.script_core.specs.ReportReading.{may_be_left_out, GoesOn, AreLastOf}
+use Rattle.script_core.specs.JournalReading.{IsReportFront, IsWholeReport}
 
 -- each line has a text: a process may have sent what was taken, and one more where that is nothing
 reported_once : (state : ProcState) (n : ℕ) → is_reported state (suc n) ≡ true

@@ -1,28 +1,19 @@
 -- What a `JournalReader` has read once a header line, an entry or a line of the report was taken down, and whether it may end.
 use Rattle.script_core.proofs.JournalReportLemmas.{one_report, AreLeft-first, AreLeft-more, front_more, no_front, due_is, nothing_due, ends_whole, first_due-none}
-use Rattle.std.proofs.Common.{append-nil, rules, arith, ◌≡◌, ◌≢◌, ℕ, true, false, List, [], ◌∷◌, ◌++◌, All, Option, Some, None, MatchOption, Result, Ok, Err, inr, refl, sym, ap, ap₂, ◌∙◌, subst, is_some}
-use Rattle.std.proofs.lemmas.Grind.{common_steps}
-use Rattle.lock_book.specs.OneReport.{LocksHaveOneReport}
-use Rattle.lock_manager.specs.declared.request.Rules.{Rules}
-use Rattle.lock_manager.specs.State.{State}
+use Rattle.script_core.proofs.Common.{append-nil, rules, arith, ◌≡◌, ◌≢◌, ℕ, true, false, List, [], ◌∷◌, ◌++◌, All, Option, Some, None, MatchOption, Result, Ok, Err, inr, refl, sym, ap, ap₂, ◌∙◌, subst, is_some, common_steps}
+use Rattle.script_core.proofs.Common.{LocksHaveOneReport, Rules, State, Event, IsRun, Header, Stage, Place, ReportLine, AreTextsOf, IsFirstDue, first_due, AreReportLines, HasFewTaken, JournalReading, AreLegal, IsBeforeReport, rules_at, processes_at, AreLeft, TakesSaid}
 use Rattle.session_core.specs.Checking.{HasAccepted}
-use Rattle.session_core.specs.Event.{Event}
-use Rattle.session_core.specs.Runs.{IsRun}
-use Rattle.script_core.specs.declared.header.Header.{Header}
-use Rattle.script_core.specs.declared.place.Stage.{Stage}
 use Rattle.script_core.specs.declared.place.Stage.TheVariants as stages
-use Rattle.script_core.specs.declared.place.Place.{Place}
 use Rattle.script_core.specs.declared.place.JournalLine.TheVariants as lines
 use Rattle.script_core.specs.declared.journal.JournalFault.{JournalFault}
 use Rattle.script_core.specs.declared.journal.JournalFault.TheVariants as faults
 use Rattle.script_core.specs.declared.journal.JournalReader.{JournalReader}
 use Rattle.script_core.specs.declared.report.ReportFault.{ReportFault}
 use Rattle.script_core.specs.declared.report.ReportFault.TheVariants as reports
-use Rattle.script_core.specs.declared.report.ReportLine.{ReportLine}
 use Rattle.script_core.specs.ExpectedText.{due_text}
-use Rattle.script_core.specs.ReportReading.{AreTextsOf, IsFirstDue, first_due, GoesOn, AreLastOf, AreReportLines, HasFewTaken}
-use Rattle.script_core.specs.JournalReading.{JournalReading, AreLegal, IsBeforeReport, MayEnd, rules_at, processes_at}
-use Rattle.script_core.specs.JournalView.{HasRead, HasChecked, HasReported, AreLeft, IsAtOpening, TakesSaid, Finishes, place_of, is_spent, is_cut, cuts, expected_in, report_fault_of}
+use Rattle.script_core.specs.ReportReading.{GoesOn, AreLastOf}
+use Rattle.script_core.specs.JournalReading.{MayEnd}
+use Rattle.script_core.specs.JournalView.{HasRead, HasChecked, HasReported, IsAtOpening, Finishes, place_of, is_spent, is_cut, cuts, expected_in, report_fault_of}
 
 -- an entry was taken down
 pub entry_taken : (old new : JournalReader) (reading : JournalReading) (line : List ℕ) (event : Event) → HasRead old reading

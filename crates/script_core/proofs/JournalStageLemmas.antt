@@ -1,15 +1,7 @@
 -- Which lines may stand where in a journal, for `JournalReader`: header lines before all others, and entries before the report.
-use Rattle.std.proofs.Common.{arith, ◌≡◌, ℕ, Option, Some, None, Result, Ok, Err, List, MatchResult}
-use Rattle.std.proofs.lemmas.Grind.{common_steps}
-use Rattle.std.specs.Prelude.{⊤}
-use Rattle.session_core.specs.Event.{Event}
-use Rattle.script_core.specs.declared.place.Stage.{Stage}
+use Rattle.script_core.proofs.Common.{arith, ◌≡◌, ℕ, Option, Some, None, Result, Ok, Err, List, MatchResult, common_steps, ⊤, Event, Stage, Place, JournalLine, Cause, HeadGives, JournalLineGives, IsBeforeReport}
 use Rattle.script_core.specs.declared.place.Stage.TheVariants as stages
-use Rattle.script_core.specs.declared.place.Place.{Place}
-use Rattle.script_core.specs.declared.place.JournalLine.{JournalLine}
 use Rattle.script_core.specs.declared.place.JournalLine.TheVariants as lines
-use Rattle.script_core.specs.declared.script.Cause.{Cause}
-use Rattle.script_core.specs.JournalReading.{HeadGives, JournalLineGives, IsBeforeReport}
 
 -- a line that says this may stand there: a header line before all others, and an entry before the report
 abbrev pub Fits : Stage → JournalLine → Type 0

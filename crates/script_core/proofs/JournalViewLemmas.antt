@@ -1,17 +1,13 @@
 -- What a `JournalReader` answers to a line, from what the line gives and what was taken down of it.
-use Rattle.std.proofs.Common.{rules, arith, ◌≡◌, ◌⊎◌, ℕ, Result, Ok, Err, List, refl, subst, inl, inr}
-use Rattle.std.proofs.lemmas.Grind.{common_steps}
-use Rattle.script_core.specs.declared.place.Place.{Place}
-use Rattle.script_core.specs.declared.place.JournalLine.{JournalLine}
-use Rattle.script_core.specs.declared.script.Cause.{Cause}
-use Rattle.script_core.specs.declared.script.Cause.TheVariants.{Byte, Word, Count, Number, Process, TooLong, Memory, Tag}
+use Rattle.script_core.proofs.Common.{rules, arith, ◌≡◌, ◌⊎◌, ℕ, Result, Ok, Err, List, refl, subst, inl, inr, common_steps, Place, JournalLine, Cause, Byte, Word, Count, TooLong, IsOfScript, pieces_of, JournalReading, JournalLineGives, limits_at, TakesSaid}
+use Rattle.script_core.specs.declared.script.Cause.TheVariants.{Number, Process, Memory, Tag}
 use Rattle.script_core.specs.declared.journal.JournalFault.{JournalFault}
 use Rattle.script_core.specs.declared.journal.JournalFault.TheVariants as faults
 use Rattle.script_core.specs.declared.journal.JournalReader.{JournalReader}
-use Rattle.script_core.specs.Reading.{IsOfScript, IsWantOfMemory}
-use Rattle.script_core.specs.EntryReading.{pieces_of, HaveNote}
-use Rattle.script_core.specs.JournalReading.{JournalReading, TextGives, JournalLineGives, limits_at}
-use Rattle.script_core.specs.JournalView.{HasRead, Takes, TakesSaid, fault_of}
+use Rattle.script_core.specs.Reading.{IsWantOfMemory}
+use Rattle.script_core.specs.EntryReading.{HaveNote}
+use Rattle.script_core.specs.JournalReading.{TextGives}
+use Rattle.script_core.specs.JournalView.{HasRead, Takes, fault_of}
 
 -- each cause is one of a script, or want of memory
 of_script_or_memory : (cause : Cause) → IsOfScript cause ⊎ IsWantOfMemory cause

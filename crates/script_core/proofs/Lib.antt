@@ -1,3 +1,4 @@
+mod Common
 pub mod NumberLemmas
 pub mod LineLemmas
 pub mod FirstWordsLemmas

@@ -1,11 +1,8 @@
 -- The bytes of a line: for `printable_text` and `said_words`.
-use Rattle.std.proofs.lemmas.Grind.{common_steps}
-use Rattle.std.proofs.Common.{◌≡◌, ℕ, Bool, true, false, List, [], ◌∷◌, length, filter, refl, arith, ne_eqb, ◌==◌, if◌then◌else◌, not}
-use Rattle.std.specs.List.{slice_split, onto_first}
+use Rattle.script_core.proofs.Common.{common_steps, ◌≡◌, ℕ, Bool, true, false, List, [], ◌∷◌, length, filter, refl, arith, ne_eqb, ◌==◌, if◌then◌else◌, not, slice_split, onto_first, is_printable, words_of, AreSkipped, is_comment}
 use Rattle.std.specs.Str.{IsUtf8, IsAscii}
 use Rattle.std.proofs.lemmas.Str.{IsUtf8-from_ascii}
-use Rattle.script_core.specs.Words.{begins_with_hash, is_printable, words_of}
-use Rattle.script_core.specs.Reading.{AreSkipped, is_comment}
+use Rattle.script_core.specs.Words.{begins_with_hash}
 
 printable_ascii : (line : List ℕ) → is_printable line ≡ true → IsAscii line
 printable_ascii line h h2 = grind (arith, common_steps)

@@ -1,22 +1,11 @@
 -- Which locks go with an event: for `write_explained`, clause `ok`.
-use Rattle.std.proofs.lemmas.Bool.{cases_lt, eqb-true}
-use Rattle.std.proofs.Common.{ℕ, zero, suc, ◌≡◌, ◌+◌, ◌<◌, ◌==◌, ◌&&◌, ◌||◌, not, Bool, true, false, IsFalse, inl, inr, Option, Some, None, Result, Ok, Err, IfOk, List, [], ◌∷◌, ◌++◌, length, map, MatchBool, refl, sym, ap, subst, ◌∙◌, arith, add-one, append-nil}
-use Rattle.range_core.specs.declared.Mode.{Mode}
-use Rattle.range_core.specs.declared.Span.{Span}
+use Rattle.script_core.proofs.Common.{cases_lt, eqb-true, ℕ, zero, suc, ◌≡◌, ◌+◌, ◌<◌, ◌==◌, ◌&&◌, ◌||◌, not, Bool, true, false, IsFalse, inl, inr, Option, Some, None, Result, Ok, Err, List, [], ◌∷◌, ◌++◌, length, map, MatchBool, refl, sym, ap, subst, ◌∙◌, arith, add-one, append-nil}
+use Rattle.script_core.proofs.Common.{Mode, Span, Modes, AreRuns, Look, Held, Owner, Process, Description, mode_in, flock_mode_in, State, Manager, StandsFor, Closing, is_such, any_open, is_alive, keeps, stays_open, byte_line, flock_line}
+use Rattle.std.proofs.Common.{IfOk}
 use Rattle.range_core.specs.declared.list.RangeList.{RangeList}
 use Rattle.range_core.specs.Changes.{modes_of}
-use Rattle.range_core.specs.Ranges.{Modes, AreRuns}
-use Rattle.fd_table.specs.declared.tables.Look.{Look}
-use Rattle.lock_book.specs.declared.Held.{Held}
-use Rattle.lock_book.specs.declared.Owner.{Owner}
-use Rattle.lock_book.specs.declared.Owner.TheVariants.{Process, Description}
 use Rattle.lock_book.specs.OwnerLists.{modes_in_list}
-use Rattle.lock_book.specs.Changes.{mode_in, flock_mode_in}
-use Rattle.lock_manager.specs.State.{State}
-use Rattle.lock_manager.specs.declared.manager.Manager.{Manager}
-use Rattle.lock_manager.specs.ManagerView.{StandsFor}
-use Rattle.script_core.specs.declared.losses.Closing.{Closing}
-use Rattle.script_core.specs.Losses.{is_such, any_open, is_alive, keeps, stays_open, byte_line, flock_line, AreByteLocksOf, AreLocksOf, AreReleasedBy}
+use Rattle.script_core.specs.Losses.{AreByteLocksOf, AreLocksOf, AreReleasedBy}
 
 or_true : (b : Bool) → (b || true) ≡ true
 or_true true = refl

@@ -1,19 +1,9 @@
 -- A piece's first words: what they say, the whole piece says; for `read_note` and `read_taken`.
-use Rattle.std.proofs.lemmas.Grind.{common_steps}
-use Rattle.std.proofs.Common.{◌≡◌, ℕ, ◌<◌, ◌≤◌, Option, IfSome, MatchOption, MatchResult, Result, Ok, Err, List, [], ◌∷◌, length, take, subst, arith, lit≤, ⊎_elim, take_all, ◌⊎◌}
+use Rattle.script_core.proofs.Common.{common_steps, ◌≡◌, ℕ, ◌<◌, ◌≤◌, Option, IfSome, MatchOption, MatchResult, Result, Ok, Err, List, [], ◌∷◌, length, take, subst, arith, lit≤, ⊎_elim, ◌⊎◌, cases_lt, length-take-le}
+use Rattle.script_core.proofs.Common.{Limits, Reply, Note, Taken, Cause, Word, reply_words, Argument, ErrorWord, Spells, AreRefused, Command, RequestIsTaken, TakenGives, ReplyWordsGive, ReplyGives, WaitGives, ToldGives, NoteGives, RequestGives}
+use Rattle.std.proofs.Common.{take_all}
 use Rattle.std.specs.List.{AllByRecursion as Each}
-use Rattle.std.proofs.lemmas.Bool.{cases_lt}
-use Rattle.std.proofs.lemmas.List.{length-take-le}
-use Rattle.fd_table.specs.declared.Limits.{Limits}
-use Rattle.lock_manager.specs.declared.request.Reply.{Reply}
-use Rattle.lock_manager.specs.declared.request.Note.{Note}
-use Rattle.script_core.specs.declared.entry.Taken.{Taken}
-use Rattle.script_core.specs.declared.script.Cause.{Cause}
-use Rattle.script_core.specs.declared.script.Cause.TheVariants.{Word}
-use Rattle.script_core.specs.EntryText.{reply_words}
-use Rattle.script_core.specs.Arguments.{Argument, ErrorWord, Spells, AreRefused, Command}
-use Rattle.script_core.specs.EntryReading.{RequestIsTaken, TakenGives, reply_forms, ReplyWordsGive, ReplyGives, WaitGives, ToldGives, NoteGives}
-use Rattle.script_core.specs.Reading.{RequestGives}
+use Rattle.script_core.specs.EntryReading.{reply_forms}
 use Rattle.script_core.proofs.FirstWordsLemmas.{MatchBool-map, found_has, many_arguments}
 
 -- of words that are more than the arguments expected, others that are say the same

@@ -1,16 +1,14 @@
 -- Words that spell numbers: for `integer_of`, `natural_of`, `read_descriptor` and others.
-use Rattle.std.proofs.Common.{rules, ◌≡◌, ◌≢◌, ◌∙◌, ℕ, ◌<◌, ◌≤◌, ◌^◌, ◌==◌, false, cond, List, [], ◌∷◌, length, get_or, codes, decimal, Option, None, Result, Ok, Err, MatchOption, ℤ, pos, ◌-ℤ◌, neg_ℤ, FitsSigned, refl, sym, ap, arith}
-use Rattle.std.proofs.lemmas.Grind.{common_steps}
-use Rattle.std.specs.Fmt.{digits, signed_decimal}
+use Rattle.script_core.proofs.Common.{rules, ◌≡◌, ◌≢◌, ◌∙◌, ℕ, ◌<◌, ◌≤◌, ◌^◌, ◌==◌, false, cond, List, [], ◌∷◌, length, get_or, codes, decimal, Option, None, Result, Ok, Err, MatchOption, ℤ, pos, FitsSigned, refl, sym, ap, arith, common_steps, digits, signed_decimal, nat_tests, decimal_is_IsNumeral, decimal_injective}
+use Rattle.std.proofs.Common.{◌-ℤ◌, neg_ℤ}
 use Rattle.std.specs.Option.{SomeIff}
 use Rattle.std.specs.Result.{OkIff, result_ok}
 use Rattle.std.specs.Int.{w64}
 use Rattle.std.specs.Str.Parse.{AllDigits, digits_value, ParsesUnsigned}
 use Rattle.std.proofs.lemmas.Str.Parse.{IsNumeralModel, numerals_by_value, tells_digits, digit_at, parse_plain}
 use Rattle.std.proofs.lemmas.Int.{ints}
-use Rattle.std.proofs.lemmas.Bool.Decides.{nat_tests}
 use Rattle.script_core.specs.Numbers.{BeginsPlainly}
-use Rattle.std.proofs.lemmas.Fmt.{decimal_is_IsNumeral, decimal-digits_value, first_decimal, parse-decimal, decimal_injective}
+use Rattle.std.proofs.lemmas.Fmt.{decimal-digits_value, first_decimal, parse-decimal}
 
 pub digits_model : IsNumeralModel (AllDigits 10) (digits_value 10)
 digits_model = numerals_by_value (AllDigits 10) tells_digits

@@ -1,59 +1,20 @@
 -- Whatever a request comes to fits, one case for each request: the notes can be written, and there is no more than one for each process; for
 -- `outputs_are_legal`.
-use Rattle.std.proofs.Common.{length-append, rules, ◌≡◌, ◌≢◌, ℕ, ◌+◌, ◌^◌, ◌<◌, ◌≤◌, ◌==◌, ◌&&◌, ◌⊎◌, Bool, true, false, List, [], ◌∷◌, length, Option, Some, None, Result, Ok, Err, MatchBool, MatchOption, MatchResult, inl, ⊎_elim, refl, sym, ap, ◌∙◌, subst, arith, eq-eqb, ne_eqb, ℤ, pos, if◌then◌else◌, int_lt}
-use Rattle.std.proofs.lemmas.Grind.{common_steps}
+use Rattle.script_core.proofs.Common.{length-append, rules, ◌≡◌, ◌≢◌, ℕ, ◌+◌, ◌^◌, ◌<◌, ◌≤◌, ◌==◌, ◌&&◌, ◌⊎◌, Bool, true, false, List, [], ◌∷◌, length, Option, Some, None, Result, Ok, Err, MatchBool, MatchOption, MatchResult, inl, ⊎_elim, refl, sym, ap, ◌∙◌, subst, arith, eq-eqb, ne_eqb, ℤ, pos, if◌then◌else◌, common_steps, cases_eq, eqb-true}
+use Rattle.script_core.proofs.Common.{OFFMAX, Kind, Mode, Span, RangeFault, resolution, Owner, is_same_owner, Change, mode_from, Access, FdFault, Limits, Small, Look, Released, AreReleased, nothing, Descriptors, SameDescriptors, descriptor_limit, look_at, with_descriptor, description_limit, Wait, IsBlocked, Rules, Errno, EBADF, Lock, LkCmd, GetLk, SetLk, SetLkW, OGetLk, OSetLk, OSetLkW, FlockOp, Sh, Ex, Un, Request, OpenFile, Dup, DupTo, CloseFd, Seek, Resize, Lk, Flock, Fork, Exit, Signal, Kill, Enter, Leave, Bail, Note, Reply, ProcState, Unborn, Live, Waiting, Ended, State, locks_held, with_lock, with_byte_mode, with_flock_mode, with_process, IsSettled, Outcome, answered, answered_then, refused, waits_then, range_error, IsRefusal, with_released, OpenComesTo, DupComesTo, DupToComesTo, CloseComesTo, SeekComesTo, ResizeComesTo, is_bad_argument, wanted_mode, held_reply, lock_owner, DescribedComesTo, ModeComesTo, CommandComesTo, GetComesTo, SetComesTo, FlockOpComesTo, FlockModeComesTo, FlockTestComesTo, ForkComesTo, EndComesTo, SignalComesTo, KillOtherComesTo, without_wait, may_enter, may_leave, ComesTo, IsProcess, IsWritable, IsWritableNote, IsWritableReply}
+use Rattle.std.proofs.Common.{int_lt}
 use Rattle.std.proofs.lemmas.List.Sums.{length-filter, count_by-le-length}
 use Rattle.std.specs.List.{AllByRecursion as Each}
 use Rattle.std.proofs.lemmas.Int.{ints}
-use Rattle.std.proofs.lemmas.Bool.{cases_eq, eqb-true, leb-true, ltb-false}
-use Rattle.range_core.specs.declared.TheConstants.{OFFMAX}
-use Rattle.range_core.specs.declared.Kind.{Kind}
-use Rattle.range_core.specs.declared.Mode.{Mode}
-use Rattle.range_core.specs.declared.Span.{Span}
-use Rattle.range_core.specs.declared.RangeFault.{RangeFault}
-use Rattle.range_core.specs.Resolving.{resolution, range_between}
-use Rattle.lock_book.specs.declared.Owner.{Owner}
+use Rattle.std.proofs.lemmas.Bool.{leb-true, ltb-false}
+use Rattle.range_core.specs.Resolving.{range_between}
 use Rattle.lock_book.specs.declared.Blocker.{Blocker}
-use Rattle.lock_book.specs.Owners.{is_same_owner}
-use Rattle.lock_book.specs.Changes.{Change, mode_from}
 use Rattle.lock_book.specs.Conflicts.{IsFirstBlocker}
-use Rattle.fd_table.specs.declared.Access.{Access}
-use Rattle.fd_table.specs.declared.FdFault.{FdFault}
-use Rattle.fd_table.specs.declared.Limits.{Limits}
-use Rattle.fd_table.specs.declared.Limits.TheVariants.{Small, Wide}
-use Rattle.fd_table.specs.declared.tables.Look.{Look}
-use Rattle.fd_table.specs.Releases.{Released, AreReleased, nothing}
-use Rattle.fd_table.specs.Descriptors.{Descriptors, SameDescriptors, descriptor_limit, look_at, with_descriptor, description_limit}
-use Rattle.wait_core.specs.declared.Wait.{Wait}
-use Rattle.wait_core.specs.Blocking.{IsBlocked}
+use Rattle.fd_table.specs.declared.Limits.TheVariants.{Wide}
 use Rattle.wait_core.specs.WaitsView.{wait_of, without_wait_of}
-use Rattle.lock_manager.specs.declared.request.Rules.{Rules}
-use Rattle.lock_manager.specs.declared.request.Errno.{Errno}
-use Rattle.lock_manager.specs.declared.request.Errno.TheVariants.{EBADF}
-use Rattle.lock_manager.specs.declared.request.Lock.{Lock}
-use Rattle.lock_manager.specs.declared.request.LkCmd.{LkCmd}
-use Rattle.lock_manager.specs.declared.request.LkCmd.TheVariants.{GetLk, SetLk, SetLkW, OGetLk, OSetLk, OSetLkW}
-use Rattle.lock_manager.specs.declared.request.FlockOp.{FlockOp}
-use Rattle.lock_manager.specs.declared.request.FlockOp.TheVariants.{Sh, Ex, Un}
-use Rattle.lock_manager.specs.declared.request.Request.{Request}
-use Rattle.lock_manager.specs.declared.request.Request.TheVariants.{OpenFile, Dup, DupTo, CloseFd, Seek, Resize, Lk, Flock, Fork, Exit, Signal, Kill, Enter, Leave, Bail}
-use Rattle.lock_manager.specs.declared.request.Note.{Note}
-use Rattle.lock_manager.specs.declared.request.Reply.{Reply}
 use Rattle.lock_manager.specs.declared.request.Reply.TheVariants as replies
-use Rattle.lock_manager.specs.declared.request.ProcState.{ProcState}
-use Rattle.lock_manager.specs.declared.request.ProcState.TheVariants.{Unborn, Live, Waiting, Ended}
-use Rattle.lock_manager.specs.State.{State, locks_held, with_lock, with_byte_mode, with_flock_mode, with_process}
-use Rattle.lock_manager.specs.Settling.{IsSettled}
-use Rattle.lock_manager.specs.Outcomes.{Outcome, answered, answered_then, refused, waits_then, range_error, IsRefusal}
-use Rattle.lock_manager.specs.DescriptorCalls.{with_released, OpenComesTo, DupComesTo, DupToComesTo, CloseComesTo, SeekComesTo, ResizeComesTo}
-use Rattle.lock_manager.specs.LockWords.{is_bad_argument, wanted_mode, held_reply, lock_owner}
-use Rattle.lock_manager.specs.LockCommands.{DescribedComesTo, RangeComesTo, ModeComesTo, CommandComesTo, GetComesTo, SetComesTo, SetOrWaitComesTo, WaitOrDeadlockComesTo}
-use Rattle.lock_manager.specs.FlockCalls.{FlockOpComesTo, FlockModeComesTo, FlockTestComesTo, ConversionComesTo, is_same_mode}
-use Rattle.lock_manager.specs.ProcessCalls.{ForkComesTo, EndComesTo, SignalComesTo, KillOtherComesTo, without_wait}
-use Rattle.lock_manager.specs.Sections.{may_enter, may_leave}
-use Rattle.lock_manager.specs.Step.{ComesTo}
-use Rattle.script_core.specs.ScriptText.{IsProcess, IsWritable}
-use Rattle.script_core.specs.EntryReading.{IsWritableNote, IsWritableReply}
+use Rattle.lock_manager.specs.LockCommands.{RangeComesTo, SetOrWaitComesTo, WaitOrDeadlockComesTo}
+use Rattle.lock_manager.specs.FlockCalls.{ConversionComesTo, is_same_mode}
 use Rattle.script_core.proofs.FitLemmas.{IsSmallOwner, FitsChange, FitsFiles, FitsLocks, FitsWanted, FitsWait, FitsLook, AreApart, Fits, SameProcesses, each_append, each_both, apart_push, others_wait, few_processes, few_wait, same_locked, fits_same, released_locks, look_fits, same_files, moved_file, settles_fit, settles_settled, blocked_more}
 
 -- a process of the limits, which lives, makes a request with such a number in a state that fits and is settled

@@ -1,13 +1,6 @@
 -- A script has one output: for `scripts_have_one_output`.
-use Rattle.std.proofs.Common.{rules, arith, ◌≡◌, ℕ, List, Ok}
-use Rattle.std.proofs.lemmas.Grind.{common_steps}
-use Rattle.lock_book.specs.OneReport.{LocksHaveOneReport}
-use Rattle.lock_manager.specs.State.{State}
-use Rattle.session_core.specs.Event.{Event}
+use Rattle.script_core.proofs.Common.{rules, arith, ◌≡◌, ℕ, List, Ok, common_steps, LocksHaveOneReport, State, Event, Meaning, Reads, IsReport}
 use Rattle.session_core.specs.OneDrain.{ArrivalsHaveOneDrain}
-use Rattle.script_core.specs.ScriptText.{Meaning}
-use Rattle.script_core.specs.Reading.{Reads}
-use Rattle.script_core.specs.ReportText.{IsReport}
 use Rattle.script_core.specs.Output.{ScriptsHaveOneOutput}
 use Rattle.script_core.proofs.ReadingLemmas.{one_reading}
 

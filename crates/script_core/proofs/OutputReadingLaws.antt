@@ -1,30 +1,15 @@
 -- Outputs are legal journals: for `outputs_are_legal`.
-use Rattle.std.proofs.lemmas.List.Elements.{All-head, All-tail}
-use Rattle.std.proofs.lemmas.Grind.{common_steps}
-use Rattle.std.proofs.Common.{◌≡◌, ℕ, ◌+◌, ◌≤◌, Bool, true, false, nat_lt, List, [], ◌∷◌, ◌++◌, map, flat_map, length, All, MatchBool, Result, Ok, Err, inl, inr, refl, sym, ap, ◌∙◌, subst, arith, append_assoc, append-nil}
+use Rattle.script_core.proofs.Common.{All-head, All-tail, common_steps, ◌≡◌, ℕ, ◌+◌, ◌≤◌, Bool, true, false, nat_lt, List, [], ◌∷◌, ◌++◌, map, flat_map, length, All, MatchBool, Result, Ok, Err, inl, inr, refl, sym, ap, ◌∙◌, subst, arith, append_assoc, append-nil}
+use Rattle.script_core.proofs.Common.{LocksHaveOneReport, Limits, Rules, Event, IsRun, requests_sent, Place, ReportLine, Cause, Byte, TooLong, lines_of, is_printable, entry_text, entry_line, entry_limit, IsWritableEvent, AreTextsOf, AreReportLines, lines_from, Legal, JournalReading, JournalGives, IsBeforeReport, AreLegal, rules_at, limits_at, reading_behind, processes_in}
 use Rattle.std.specs.List.{AllByRecursion as Each}
 use Rattle.std.proofs.lemmas.Bool.Decides.{eqb_tells}
-use Rattle.lock_book.specs.OneReport.{LocksHaveOneReport}
 use Rattle.fd_table.specs.Descriptors.{process_limit}
-use Rattle.fd_table.specs.declared.Limits.{Limits}
-use Rattle.lock_manager.specs.declared.request.Rules.{Rules}
-use Rattle.session_core.specs.Event.{Event}
-use Rattle.session_core.specs.Runs.{IsRun}
-use Rattle.session_core.specs.Mail.{requests_sent}
 use Rattle.script_core.specs.declared.place.Stage.TheVariants as stages
-use Rattle.script_core.specs.declared.place.Place.{Place}
 use Rattle.script_core.specs.declared.place.JournalLine.TheVariants as lines
-use Rattle.script_core.specs.declared.report.ReportLine.{ReportLine}
 use Rattle.script_core.specs.declared.report.ReportLine.TheVariants as report_lines
-use Rattle.script_core.specs.declared.script.Cause.{Cause}
-use Rattle.script_core.specs.declared.script.Cause.TheVariants.{Byte, TooLong}
-use Rattle.script_core.specs.Words.{lines_of, is_printable}
 use Rattle.script_core.specs.HeaderReading.{rules_said}
-use Rattle.script_core.specs.EntryText.{entry_text, entry_line}
-use Rattle.script_core.specs.EntryReading.{entry_limit, IsWritableEvent}
-use Rattle.script_core.specs.ReportReading.{AreTextsOf, AreReportLines, MayHaveSent, lines_from, joined}
-use Rattle.script_core.specs.JournalReading.{Legal, JournalReading, JournalGives, IsBeforeReport, IsReportAt, IsWholeReport, AreLegal, rules_at, limits_at, reading_behind}
-use Rattle.script_core.specs.Output.{processes_in}
+use Rattle.script_core.specs.ReportReading.{MayHaveSent, joined}
+use Rattle.script_core.specs.JournalReading.{IsReportAt, IsWholeReport}
 use Rattle.script_core.specs.OutputReading.{OutputsAreLegal}
 use Rattle.script_core.proofs.lengths.ArrivalLengthLemmas.{few_read}
 use Rattle.script_core.proofs.lengths.JournalLengthLemmas.{taken_were_sent}

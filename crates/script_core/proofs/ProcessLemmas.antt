@@ -1,19 +1,10 @@
 -- The arrivals of a script: each is of one of its processes, and is said by the words of its line; for `parse`.
-use Rattle.std.proofs.Common.{arith, ℕ, ◌≡◌, refl, sym, subst, Bool, true, List, [], ◌∷◌, Option, MatchOption, Result, Ok, Err, All, MatchBool, ◌+◌, decimal}
-use Rattle.std.proofs.lemmas.Grind.{common_steps}
-use Rattle.std.proofs.lemmas.List.Elements.{All-push, All-nil, All-weaker}
-use Rattle.fd_table.specs.declared.Limits.{Limits}
-use Rattle.lock_manager.specs.declared.request.Request.{Request}
-use Rattle.script_core.specs.declared.line.Line.{Line}
+use Rattle.script_core.proofs.Common.{arith, ℕ, ◌≡◌, refl, sym, subst, Bool, true, List, [], ◌∷◌, Option, MatchOption, Result, Ok, Err, All, MatchBool, ◌+◌, decimal, common_steps, All-nil}
+use Rattle.script_core.proofs.Common.{Limits, Request, Line, Cause, Word, ScriptFault, Meaning, IsProcess, IsWritable, Reading, limits_of, meaning_of, reading_after, is_comment, is_empty, ArgumentsGive, CommandGives, RequestGives, ArrivalGives, ProcessGives, WordsGive, LineGives, LinesGive, Reads, Command, command_named, words_of}
+use Rattle.std.proofs.lemmas.List.Elements.{All-push, All-weaker}
 use Rattle.script_core.specs.declared.line.Line.TheVariants as lines
-use Rattle.script_core.specs.declared.script.Cause.{Cause}
-use Rattle.script_core.specs.declared.script.Cause.TheVariants.{Word}
-use Rattle.script_core.specs.declared.script.ScriptFault.{ScriptFault}
-use Rattle.script_core.specs.ScriptText.{Meaning, IsProcess, IsWritable, IsRequest}
+use Rattle.script_core.specs.ScriptText.{IsRequest}
 use Rattle.script_core.specs.HeaderReading.{limits_said}
-use Rattle.script_core.specs.Reading.{Reading, limits_of, meaning_of, reading_after, is_comment, is_empty, ArgumentsGive, CommandGives, RequestGives, ArrivalGives, ProcessGives, WordsGive, LineGives, LinesGive, Reads}
-use Rattle.script_core.specs.Arguments.{Command, command_named}
-use Rattle.script_core.specs.Words.{words_of}
 use Rattle.script_core.proofs.FirstWordsLemmas.{header_cases}
 
 -- the arrival is of a process that the limits have, and its request is one that they have

@@ -1,44 +1,24 @@
 -- A script has one reading, and header lines say one thing: for `parse`, `read_named` and `JournalReader::next`.
-use Rattle.std.proofs.lemmas.Grind.{common_steps}
-use Rattle.std.proofs.Common.{rules, ◌≡◌, ℕ, ◌+◌, ◌<◌, ◌^◌, ◌⊎◌, Bool, true, false, cond, List, [], ◌∷◌, ◌++◌, length, drop, get_or, codes, ℤ, pos, FitsSigned, w64, MatchBool, MatchOption, MatchResult, Option, Some, None, unwrap_or, Result, Ok, Err, inl, inr, refl, sym, ap, ◌∙◌, subst, arith, nat_lt}
-use Rattle.std.specs.Fmt.{digits, signed_decimal}
+use Rattle.script_core.proofs.Common.{common_steps, rules, ◌≡◌, ℕ, ◌+◌, ◌<◌, ◌^◌, ◌⊎◌, Bool, true, false, cond, List, [], ◌∷◌, ◌++◌, length, drop, get_or, codes, ℤ, pos, FitsSigned, w64, MatchBool, MatchOption, MatchResult, Option, Some, None, Result, Ok, Err, inl, inr, refl, sym, ap, ◌∙◌, subst, arith, nat_lt, digits, signed_decimal, decimal_injective}
+use Rattle.script_core.proofs.Common.{Access, LkCmd, GetLk, SetLk, SetLkW, OGetLk, OSetLk, OSetLkW, Lock, Limits, Small, Policy, FlockOp, Sh, Ex, Un, Request, OpenFile, Dup, DupTo, CloseFd, Seek, Resize, Lk, Flock, Fork, Exit, Signal, Kill, Enter, Leave, Bail, Visit, Kind, Whence, Header, Line, Cause, Byte, Word, Count, TooLong, ScriptFault, words_of, is_printable, line_limit, access_word, kind_word, whence_word, op_word, nb_words, visit_words, lock_command_word, pid_words, request_words, Argument, AnyNumber, Spells, IsFirstBad, AreRefused, Command, command_named, has_count, Meaning, Says, IsProcess, IsWritable, Reading, ArgumentsGive, CommandGives, RequestGives, ArrivalGives, ProcessGives, WordsGive, LineGives, LinesGive, is_comment, is_empty, limits_of, meaning_of, reading_after}
+use Rattle.std.proofs.Common.{unwrap_or}
 use Rattle.std.specs.Str.{bytes_eq}
 use Rattle.std.specs.Str.Parse.{digits_value}
-use Rattle.std.proofs.lemmas.Fmt.{decimal_injective}
-use Rattle.fd_table.specs.declared.Access.{Access}
 use Rattle.fd_table.specs.declared.Access.TheVariants.{R, W, Rw}
-use Rattle.lock_manager.specs.declared.request.LkCmd.{LkCmd}
-use Rattle.lock_manager.specs.declared.request.LkCmd.TheVariants.{GetLk, SetLk, SetLkW, OGetLk, OSetLk, OSetLkW}
-use Rattle.lock_manager.specs.declared.request.Lock.{Lock}
-use Rattle.fd_table.specs.declared.Limits.{Limits}
-use Rattle.fd_table.specs.declared.Limits.TheVariants.{Small, Wide}
-use Rattle.wait_core.specs.declared.Policy.{Policy}
+use Rattle.fd_table.specs.declared.Limits.TheVariants.{Wide}
 use Rattle.wait_core.specs.declared.Policy.TheVariants.{Held, Queue}
-use Rattle.lock_manager.specs.declared.request.FlockOp.{FlockOp}
-use Rattle.lock_manager.specs.declared.request.FlockOp.TheVariants.{Sh, Ex, Un}
-use Rattle.lock_manager.specs.declared.request.Request.{Request}
-use Rattle.lock_manager.specs.declared.request.Request.TheVariants.{OpenFile, Dup, DupTo, CloseFd, Seek, Resize, Lk, Flock, Fork, Exit, Signal, Kill, Enter, Leave, Bail}
-use Rattle.lock_manager.specs.declared.request.Visit.{Visit}
 use Rattle.lock_manager.specs.declared.request.Visit.TheVariants.{Sole, Shared}
-use Rattle.range_core.specs.declared.Kind.{Kind}
 use Rattle.range_core.specs.declared.Kind.TheVariants.{Read, Write, Unlock}
-use Rattle.range_core.specs.declared.Whence.{Whence}
 use Rattle.range_core.specs.declared.Whence.TheVariants.{Set, Cur, End}
 use Rattle.script_core.specs.declared.commands.CommandName.{CommandName}
 use Rattle.script_core.specs.declared.commands.CommandName.TheVariants as names
-use Rattle.script_core.specs.declared.header.Header.{Header}
-use Rattle.script_core.specs.declared.line.Line.{Line}
 use Rattle.script_core.specs.declared.line.Line.TheVariants as lines
-use Rattle.script_core.specs.declared.script.Cause.{Cause}
-use Rattle.script_core.specs.declared.script.Cause.TheVariants.{Byte, Word, Count, TooLong}
-use Rattle.script_core.specs.declared.script.ScriptFault.{ScriptFault}
-use Rattle.script_core.specs.Words.{words_of, is_printable, line_limit}
 use Rattle.script_core.specs.HeaderText.{policy_word, limits_word}
-use Rattle.script_core.specs.RequestText.{access_word, kind_word, whence_word, op_word, nb_words, visit_words, command_word, lock_command_word, pid_words, lock_words, request_words}
-use Rattle.script_core.specs.Arguments.{Argument, FileNumber, SectionNumber, DescriptorNumber, AnyNumber, ProcessNumber, AccessWord, OpWord, NbWord, SharedWord, PolicyWord, LimitsWord, Spells, IsFirstBad, AreRefused, lock_arguments, lock_command, Command, command_named, has_count}
-use Rattle.script_core.specs.ScriptText.{Meaning, HasZeroPid, Says, IsRequest, IsProcess, IsWritable}
+use Rattle.script_core.specs.RequestText.{command_word, lock_words}
+use Rattle.script_core.specs.Arguments.{FileNumber, SectionNumber, DescriptorNumber, ProcessNumber, AccessWord, OpWord, NbWord, SharedWord, PolicyWord, LimitsWord, lock_arguments, lock_command}
+use Rattle.script_core.specs.ScriptText.{HasZeroPid, IsRequest}
 use Rattle.script_core.specs.HeaderReading.{ValueGives, HeaderGives, says_policy, says_limits}
-use Rattle.script_core.specs.Reading.{Reading, ArgumentsGive, CommandGives, RequestGives, ArrivalGives, ProcessGives, WordsGive, LineGives, LinesGive, HasOneReading, is_comment, is_empty, limits_of, meaning_of, reading_after, start}
+use Rattle.script_core.specs.Reading.{HasOneReading, start}
 use Rattle.script_core.proofs.NumberLemmas.{number_in, number_in-zero, digits_value-spelled, number_in-spelled}
 
 pub same_value : {X : Type 0} (value a b : X) → a ≡ value → b ≡ value → a ≡ b

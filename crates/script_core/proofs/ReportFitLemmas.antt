@@ -1,46 +1,15 @@
 -- The report of an output: its numbers are such as its lines may have, and each line is read as one of the report; for `outputs_are_legal` and
 -- `outputs_are_short`.
-use Rattle.std.proofs.lemmas.Grind.{common_steps}
-use Rattle.std.proofs.Common.{◌≡◌, ℕ, zero, suc, ◌+◌, ◌*◌, ◌^◌, ◌<◌, ◌≤◌, ◌==◌, ◌&&◌, Bool, true, false, not, nat_le, List, [], ◌∷◌, ◌++◌, length, length-append, map, filter, Option, Some, None, Ok, IfSome, slice_get, inl, inr, refl, sym, ap, ◌∙◌, subst, arith, lit<, lit≤, eq-eqb, codes, decimal, if◌then◌else◌, IsFalse}
-use Rattle.std.specs.List.{AllByRecursion as Each, list_all}
-use Rattle.std.proofs.lemmas.Bool.{cases_eq, eqb-true, le-ltb}
-use Rattle.std.proofs.lemmas.Fmt.{length-decimal-le}
-use Rattle.std.proofs.lemmas.List.Elements.{recursion_from_All}
+use Rattle.script_core.proofs.Common.{common_steps, ◌≡◌, ℕ, zero, suc, ◌+◌, ◌*◌, ◌^◌, ◌<◌, ◌≤◌, ◌==◌, ◌&&◌, Bool, true, false, not, nat_le, List, [], ◌∷◌, ◌++◌, length, length-append, map, filter, Option, Some, None, Ok, IfSome, slice_get, inl, inr, refl, sym, ap, ◌∙◌, subst, arith, lit<, lit≤, eq-eqb, codes, decimal, if◌then◌else◌, IsFalse, list_all, cases_eq, eqb-true, le-ltb, length-decimal-le, recursion_from_All}
+use Rattle.script_core.proofs.Common.{OFFMAX, Mode, Span, Held, Owner, Process, Description, FlockChange, mode_in, flock_mode_from, flock_mode_in, IsFlockLine, IsFileReport, AreFileReports, IsHeldReport, Limits, description_limit, Family, Bytes, Whole, Wait, Request, Note, ProcState, State, Event, AreNumbered, requests_sent, Place, ProcessLine, ReportLine, words_of, is_printable, script_limit, mode_word, tag, entry_limit, IsWritableEvent, held_text, wait_text, state_word, counts_text, process_text, line_of, IsLineOf, AreTextsOf, AreReportLines, lines_from, HeadGives, JournalLineGives}
+use Rattle.std.specs.List.{AllByRecursion as Each}
 use Rattle.std.proofs.lemmas.List.Filters.{length-filter_both}
-use Rattle.range_core.specs.declared.TheConstants.{OFFMAX}
-use Rattle.range_core.specs.declared.Mode.{Mode}
-use Rattle.range_core.specs.declared.Span.{Span}
-use Rattle.lock_book.specs.declared.Held.{Held}
-use Rattle.lock_book.specs.declared.Owner.{Owner}
-use Rattle.lock_book.specs.declared.Owner.TheVariants.{Process, Description}
-use Rattle.lock_book.specs.Changes.{FlockChange, mode_in, flock_mode_from, flock_mode_in}
-use Rattle.lock_book.specs.Reports.{IsFlockLine, IsFileReport, AreFileReports, IsHeldReport}
 use Rattle.range_core.specs.Ranges.{IsRun}
-use Rattle.fd_table.specs.declared.Limits.{Limits}
-use Rattle.fd_table.specs.Descriptors.{description_limit}
-use Rattle.wait_core.specs.declared.Family.{Family}
-use Rattle.wait_core.specs.declared.Family.TheVariants.{Bytes, Whole}
-use Rattle.wait_core.specs.declared.Wait.{Wait}
-use Rattle.lock_manager.specs.declared.request.Request.{Request}
-use Rattle.lock_manager.specs.declared.request.Note.{Note}
 use Rattle.lock_manager.specs.declared.request.Note.TheVariants as notes
-use Rattle.lock_manager.specs.declared.request.ProcState.{ProcState}
-use Rattle.lock_manager.specs.State.{State}
-use Rattle.session_core.specs.Event.{Event}
-use Rattle.session_core.specs.Runs.{AreNumbered}
-use Rattle.session_core.specs.Mail.{events_of, answers_in, answers_from, requests_sent}
-use Rattle.script_core.specs.declared.place.Place.{Place}
+use Rattle.session_core.specs.Mail.{events_of, answers_in, answers_from}
 use Rattle.script_core.specs.declared.place.JournalLine.TheVariants as lines
-use Rattle.script_core.specs.declared.report_text.ProcessLine.{ProcessLine}
-use Rattle.script_core.specs.declared.report.ReportLine.{ReportLine}
 use Rattle.script_core.specs.declared.report.ReportLine.TheVariants as report_lines
-use Rattle.script_core.specs.Words.{words_of, is_printable, script_limit}
-use Rattle.script_core.specs.RequestText.{mode_word}
-use Rattle.script_core.specs.EntryText.{tag}
-use Rattle.script_core.specs.EntryReading.{entry_limit, IsWritableEvent}
-use Rattle.script_core.specs.ReportText.{owner_text, flock_word, byte_lock_text, flock_text, held_text, wanted_text, wait_text, state_word, counts_text, process_text, line_of}
-use Rattle.script_core.specs.ReportReading.{IsLineOf, AreTextsOf, AreReportLines, lines_from}
-use Rattle.script_core.specs.JournalReading.{HeadGives, JournalLineGives}
+use Rattle.script_core.specs.ReportText.{owner_text, flock_word, byte_lock_text, flock_text, wanted_text}
 use Rattle.script_core.proofs.RoundTripLemmas.{IsWord, IsWord-tested, IsWord-decimal}
 use Rattle.script_core.proofs.ReportReadingLemmas.{words_of-first}
 use Rattle.script_core.proofs.EntryRoundTripLemmas.{AreSpoken, AreSpoken-append, AreSpoken-word, AreSpoken-tested, printable_spoken}

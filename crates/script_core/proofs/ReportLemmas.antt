@@ -1,19 +1,8 @@
 -- The text of the report: for `push_processes` and `write_report`.
-use Rattle.std.proofs.lemmas.Grind.{common_steps}
-use Rattle.std.proofs.Common.{◌≡◌, ℕ, zero, suc, ◌+◌, ◌-◌, ◌<◌, List, ◌++◌, length, flat_map, refl, sym, ap, ◌∙◌, arith, append_assoc, append-nil, add-one, slice_index}
+use Rattle.script_core.proofs.Common.{common_steps, ◌≡◌, ℕ, zero, suc, ◌+◌, ◌-◌, ◌<◌, List, ◌++◌, length, flat_map, refl, sym, ap, ◌∙◌, arith, append_assoc, append-nil, add-one, slice_index, Held, mode_in, flock_mode_in, IsHeldReport, Wait, ProcState, Manager, State, StandsFor, processes_of, state_at, Event, manager_in, HasTold, held_line, wait_line, line_of, reported_line, process_lines, IsReport, AreCounts}
 use Rattle.std.proofs.lemmas.List.{append_cancel_left}
-use Rattle.lock_book.specs.declared.Held.{Held}
-use Rattle.lock_book.specs.Changes.{mode_in, flock_mode_in}
-use Rattle.lock_book.specs.Reports.{IsHeldReport}
-use Rattle.wait_core.specs.declared.Wait.{Wait}
-use Rattle.lock_manager.specs.declared.request.ProcState.{ProcState}
-use Rattle.lock_manager.specs.declared.manager.Manager.{Manager}
-use Rattle.lock_manager.specs.State.{State}
-use Rattle.lock_manager.specs.ManagerView.{StandsFor, processes_of, state_at}
 use Rattle.session_core.specs.declared.sequencer.Sequencer.{Sequencer}
-use Rattle.session_core.specs.Event.{Event}
-use Rattle.session_core.specs.SequencerView.{manager_in, HasTold}
-use Rattle.script_core.specs.ReportText.{held_line, wait_line, line_of, reported_line, process_lines, IsReport, IsReportOf, AreCounts, WritesReport}
+use Rattle.script_core.specs.ReportText.{IsReportOf, WritesReport}
 
 -- the lines of one more process
 process_lines-more : (states : ℕ → ProcState) (events : List Event) (sent : ℕ → ℕ) (p n : ℕ)

@@ -1,17 +1,9 @@
 -- Reports are read back, for `reports_are_read_back`: texts are those of the lines of a report just where they are its lines.
-use Rattle.std.proofs.lemmas.Grind.{common_steps}
-use Rattle.std.proofs.Common.{◌≡◌, ℕ, zero, suc, ◌+◌, ◌^◌, ◌<◌, ◌≤◌, ◌==◌, Bool, true, false, List, [], ◌∷◌, ◌++◌, length, map, flat_map, inl, inr, ⊎_elim, refl, sym, ap, ap₂, ◌∙◌, subst, arith, eq-eqb, ne_eqb, append_assoc, if◌then◌else◌}
-use Rattle.std.proofs.lemmas.Bool.{cases_eq}
-use Rattle.lock_book.specs.Changes.{mode_in, flock_mode_in}
-use Rattle.lock_book.specs.OneReport.{LocksHaveOneReport}
-use Rattle.lock_manager.specs.declared.request.ProcState.{ProcState}
-use Rattle.session_core.specs.Event.{Event}
+use Rattle.script_core.proofs.Common.{common_steps, ◌≡◌, ℕ, zero, suc, ◌+◌, ◌^◌, ◌<◌, ◌≤◌, ◌==◌, Bool, true, false, List, [], ◌∷◌, ◌++◌, length, map, flat_map, inl, inr, ⊎_elim, refl, sym, ap, ap₂, ◌∙◌, subst, arith, eq-eqb, ne_eqb, append_assoc, if◌then◌else◌, cases_eq}
+use Rattle.script_core.proofs.Common.{mode_in, flock_mode_in, LocksHaveOneReport, ProcState, Event, ProcessLine, ReportLine, held_text, held_line, wait_text, wait_line, process_text, line_of, is_reported, reported_line, process_lines, IsLineOf, MayBeLeftOut, AreTextsOf, lines_from}
 use Rattle.session_core.specs.Mail.{events_of}
-use Rattle.script_core.specs.declared.report_text.ProcessLine.{ProcessLine}
-use Rattle.script_core.specs.declared.report.ReportLine.{ReportLine}
 use Rattle.script_core.specs.declared.report.ReportLine.TheVariants as lines
-use Rattle.script_core.specs.ReportText.{held_text, held_line, wait_text, wait_line, process_text, line_of, is_reported, reported_line, process_lines}
-use Rattle.script_core.specs.ReportReading.{IsLineOf, MayBeLeftOut, AreTextsOf, least_line, lines_from, joined, ReportsAreReadBack}
+use Rattle.script_core.specs.ReportReading.{least_line, joined, ReportsAreReadBack}
 use Rattle.script_core.proofs.ReportReadingLemmas.{one_process}
 
 -- ---- lines that are there in any case: of locks and of waits

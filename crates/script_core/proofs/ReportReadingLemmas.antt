@@ -1,21 +1,12 @@
 -- The lines of a report, one after another: what `ReportReader`'s clauses say of the lines that come.
-use Rattle.std.proofs.lemmas.Grind.{common_steps}
-use Rattle.std.proofs.Common.{◌≡◌, ℕ, zero, suc, ◌+◌, ◌^◌, ◌<◌, ◌≤◌, All, List, [], ◌∷◌, ◌++◌, map, length, drop, get_or, codes, decimal, Bool, true, false, Option, Some, None, MatchOption, IfSome, inr, ⊎_elim, refl, sym, ap, ap₂, ◌∙◌, subst, arith, append_assoc, append-nil, add-one, drop-cons}
+use Rattle.script_core.proofs.Common.{common_steps, ◌≡◌, ℕ, zero, suc, ◌+◌, ◌^◌, ◌<◌, ◌≤◌, All, List, [], ◌∷◌, ◌++◌, map, length, drop, get_or, codes, decimal, Bool, true, false, Option, Some, None, MatchOption, IfSome, inr, ⊎_elim, refl, sym, ap, ap₂, ◌∙◌, subst, arith, append_assoc, append-nil, add-one, decimal_injective, All-append, All-from_recursion}
+use Rattle.script_core.proofs.Common.{Held, Wait, ProcState, Event, ProcessLine, ReportLine, texts, words_of, process_text, counts_text, state_word, is_reported, line_text, IsLineOf, MayBeLeftOut, AreTextsOf, IsFirstDue, HasFewTaken, lines_from}
+use Rattle.std.proofs.Common.{drop-cons}
 use Rattle.std.specs.List.{AllByRecursion as Each}
 use Rattle.std.specs.Borrow.{Bor}
 use Rattle.std.specs.Bool.{then_some}
-use Rattle.std.proofs.lemmas.Fmt.{decimal_injective}
-use Rattle.std.proofs.lemmas.List.Elements.{All-append, All-from_recursion}
-use Rattle.lock_book.specs.declared.Held.{Held}
-use Rattle.wait_core.specs.declared.Wait.{Wait}
-use Rattle.lock_manager.specs.declared.request.ProcState.{ProcState}
-use Rattle.session_core.specs.Event.{Event}
-use Rattle.script_core.specs.declared.report_text.ProcessLine.{ProcessLine}
-use Rattle.script_core.specs.declared.report.ReportLine.{ReportLine}
 use Rattle.script_core.specs.declared.report.ReportLine.TheVariants as lines
-use Rattle.script_core.specs.Words.{texts, words_of}
-use Rattle.script_core.specs.ReportText.{process_text, counts_text, state_word, is_reported}
-use Rattle.script_core.specs.ReportReading.{line_text, IsLineOf, MayBeLeftOut, AreTextsOf, IsFirstDue, HasFewTaken, least_line, lines_from}
+use Rattle.script_core.specs.ReportReading.{least_line}
 use Rattle.script_core.proofs.RoundTripLemmas.{IsWord, IsWord-tested, IsWord-decimal, slice_split-words, not_empty}
 
 -- the new lines are what is left of the old ones where the next text is none of those between, which may be left out

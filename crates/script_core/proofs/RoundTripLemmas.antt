@@ -1,34 +1,17 @@
 -- The text of a request, behind its process and a space, is a line that says it: for `write_entry`.
-use Rattle.std.proofs.lemmas.Grind.{common_steps}
-use Rattle.std.proofs.Common.{◌≡◌, ℕ, zero, suc, ◌+◌, ◌^◌, ◌<◌, ◌≤◌, ◌==◌, Bool, nat_le, nat_lt, true, false, not, ◌&&◌, List, [], ◌∷◌, ◌++◌, length, get_or, filter, codes, decimal, ℤ, pos, negsuc, FitsSigned, w64, Ok, inl, refl, arith, tests, lit<, lit≤, length-append, append_assoc}
-use Rattle.std.specs.Fmt.{signed_decimal}
+use Rattle.script_core.proofs.Common.{common_steps, ◌≡◌, ℕ, zero, suc, ◌+◌, ◌^◌, ◌<◌, ◌≤◌, ◌==◌, Bool, nat_le, nat_lt, true, false, not, ◌&&◌, List, [], ◌∷◌, ◌++◌, length, get_or, filter, codes, decimal, ℤ, pos, FitsSigned, w64, Ok, inl, refl, arith, lit<, lit≤, length-append, append_assoc, signed_decimal, list_all, slice_split, join_with_byte, decimal_is_IsNumeral, length-decimal-le, le-ltb, nat_tests}
+use Rattle.script_core.proofs.Common.{Access, LkCmd, GetLk, SetLk, SetLkW, OGetLk, OSetLk, OSetLkW, Limits, FlockOp, Sh, Ex, Un, Request, OpenFile, Dup, DupTo, CloseFd, Seek, Resize, Lk, Flock, Fork, Exit, Signal, Kill, Enter, Leave, Bail, Visit, Kind, Whence, words_of, is_printable, line_limit, access_word, kind_word, whence_word, op_word, nb_words, visit_words, lock_command_word, pid_words, request_words, request_text, IsProcess, IsWritable, Line, Reading, RequestGives, WordsGive, LineGives, is_comment, limits_of}
+use Rattle.std.proofs.Common.{negsuc, tests}
 use Rattle.std.specs.Str.Parse.{AllDigits}
-use Rattle.std.specs.List.{list_all, slice_split, join_with_byte}
-use Rattle.std.proofs.lemmas.Fmt.{decimal_is_IsNumeral, length-decimal-le, length_signed_le}
+use Rattle.std.proofs.lemmas.Fmt.{length_signed_le}
 use Rattle.std.proofs.lemmas.Str.Parse.{digit_from_value}
-use Rattle.std.proofs.lemmas.Bool.{le-ltb}
-use Rattle.std.proofs.lemmas.Bool.Decides.{nat_tests}
-use Rattle.fd_table.specs.declared.Access.{Access}
 use Rattle.fd_table.specs.declared.Access.TheVariants.{R, W, Rw}
-use Rattle.lock_manager.specs.declared.request.LkCmd.{LkCmd}
-use Rattle.lock_manager.specs.declared.request.LkCmd.TheVariants.{GetLk, SetLk, SetLkW, OGetLk, OSetLk, OSetLkW}
-use Rattle.fd_table.specs.declared.Limits.{Limits}
-use Rattle.lock_manager.specs.declared.request.FlockOp.{FlockOp}
-use Rattle.lock_manager.specs.declared.request.FlockOp.TheVariants.{Sh, Ex, Un}
-use Rattle.lock_manager.specs.declared.request.Request.{Request}
-use Rattle.lock_manager.specs.declared.request.Request.TheVariants.{OpenFile, Dup, DupTo, CloseFd, Seek, Resize, Lk, Flock, Fork, Exit, Signal, Kill, Enter, Leave, Bail}
-use Rattle.lock_manager.specs.declared.request.Visit.{Visit}
 use Rattle.lock_manager.specs.declared.request.Visit.TheVariants.{Sole, Shared}
-use Rattle.range_core.specs.declared.Kind.{Kind}
 use Rattle.range_core.specs.declared.Kind.TheVariants.{Read, Write, Unlock}
-use Rattle.range_core.specs.declared.Whence.{Whence}
 use Rattle.range_core.specs.declared.Whence.TheVariants.{Set, Cur, End}
-use Rattle.script_core.specs.Words.{words_of, is_printable, line_limit}
-use Rattle.script_core.specs.RequestText.{access_word, kind_word, whence_word, op_word, nb_words, visit_words, lock_command_word, pid_words, request_words, request_text}
-use Rattle.script_core.specs.ScriptText.{IsProcess, IsDescriptor, IsWritable}
-use Rattle.script_core.specs.declared.line.Line.{Line}
+use Rattle.script_core.specs.ScriptText.{IsDescriptor}
 use Rattle.script_core.specs.declared.line.Line.TheVariants as lines
-use Rattle.script_core.specs.Reading.{Reading, RequestGives, WordsGive, LineGives, IsReadBack, is_comment, limits_of}
+use Rattle.script_core.specs.Reading.{IsReadBack}
 use Rattle.script_core.proofs.NumberLemmas.{BeginsPlainly-decimal}
 use Rattle.script_core.proofs.ReadingLemmas.{small_process}
 use Rattle.script_core.proofs.HeaderLemmas.{IsNoHeaderWord-decimal}

@@ -1,22 +1,9 @@
 -- The entries of an output can be written, and are a run: for `outputs_are_legal` and `outputs_are_short`.
-use Rattle.std.proofs.lemmas.Grind.{common_steps}
-use Rattle.std.proofs.Common.{◌≡◌, ℕ, zero, suc, ◌+◌, ◌^◌, ◌<◌, ◌≤◌, ◌==◌, List, [], ◌∷◌, ◌++◌, length, length-append, All, Some, None, IfSome, slice_get, ⊎_elim, refl, sym, ap, ◌∙◌, subst, arith, eq-eqb, ne_eqb, append_assoc, append-nil}
+use Rattle.script_core.proofs.Common.{common_steps, ◌≡◌, ℕ, zero, suc, ◌+◌, ◌^◌, ◌<◌, ◌≤◌, ◌==◌, List, [], ◌∷◌, ◌++◌, length, length-append, All, Some, None, IfSome, slice_get, ⊎_elim, refl, sym, ap, ◌∙◌, subst, arith, eq-eqb, ne_eqb, append_assoc, append-nil, cases_eq, All-from_recursion, recursion_from_All, filter-append}
+use Rattle.script_core.proofs.Common.{opening_descriptors, Rules, Request, State, opening_state, IsSettled, marked, Event, Leads, IsStep, IsRun, AreNumbered, events_of, requests_sent, script_limit, IsWritableNote, IsWritableEvent, processes_in}
 use Rattle.std.specs.List.{AllByRecursion as Each}
-use Rattle.std.proofs.lemmas.Bool.{cases_eq}
-use Rattle.std.proofs.lemmas.List.Elements.{All-from_recursion, recursion_from_All, filter-append}
-use Rattle.fd_table.specs.Descriptors.{opening_descriptors}
-use Rattle.lock_manager.specs.declared.request.Rules.{Rules}
-use Rattle.lock_manager.specs.declared.request.Request.{Request}
-use Rattle.lock_manager.specs.State.{State, opening_state}
-use Rattle.lock_manager.specs.Settling.{IsSettled}
-use Rattle.lock_manager.specs.Sections.{marked}
-use Rattle.session_core.specs.Event.{Event}
-use Rattle.session_core.specs.Runs.{Leads, IsStep, IsRun, AreNumbered, events_of}
-use Rattle.session_core.specs.Mail.{requests_sent}
 use Rattle.session_core.specs.Draining.{TakesMail, DrainsFrom}
-use Rattle.script_core.specs.Words.{script_limit}
-use Rattle.script_core.specs.EntryReading.{IsWritableNote, IsWritableEvent}
-use Rattle.script_core.specs.Output.{IsOutput, processes_in}
+use Rattle.script_core.specs.Output.{IsOutput}
 use Rattle.script_core.proofs.ProcessLemmas.{IsArrivalOf, arrivals_read}
 use Rattle.script_core.proofs.lengths.ArrivalLengthLemmas.{few_read}
 use Rattle.script_core.proofs.FitLemmas.{Fits, each_append, settles_fit, settles_settled, nothing_granted, marked_fits}

@@ -1,22 +1,13 @@
 -- The lines of a script, of which a front was read: for `ScriptReader` and `parse`.
-use Rattle.std.proofs.lemmas.Grind.{common_steps}
-use Rattle.std.proofs.Common.{◌≡◌, ℕ, Option, ◌+◌, ◌<◌, ◌≤◌, ◌==◌, List, [], ◌∷◌, ◌++◌, length, take, drop, position, Some, None, IfSome, Result, Ok, Err, Bool, false, cond, All, MatchBool, inl, inr, refl, sym, ap, subst, arith, length-append}
-use Rattle.std.specs.List.{slice_split, onto_first}
-use Rattle.std.proofs.lemmas.Bool.{le-ltb}
-use Rattle.std.proofs.lemmas.List.Splits.{slice_split_first, slice_split_none}
+use Rattle.script_core.proofs.Common.{common_steps, ◌≡◌, ℕ, Option, ◌+◌, ◌<◌, ◌≤◌, ◌==◌, List, [], ◌∷◌, ◌++◌, length, take, drop, Some, None, IfSome, Result, Ok, Err, Bool, false, cond, All, MatchBool, inl, inr, refl, sym, ap, subst, arith, length-append, slice_split, onto_first, le-ltb, slice_split_none}
+use Rattle.script_core.proofs.Common.{Request, Line, Cause, TooLong, ScriptFault, Header, Meaning, without_empty_end, lines_of, script_limit, Reading, LineGives, LinesGive, IsOfScript, Reads, reading_after, reading_of}
+use Rattle.std.proofs.Common.{position}
+use Rattle.std.proofs.lemmas.List.Splits.{slice_split_first}
 use Rattle.std.proofs.lemmas.List.Sums.{fails_before_first, position_or_len_is}
 use Rattle.memchr.specs.Find.{IsFirstByte}
-use Rattle.lock_manager.specs.declared.request.Request.{Request}
-use Rattle.script_core.specs.declared.line.Line.{Line}
 use Rattle.script_core.specs.declared.line.Line.TheVariants as lines
-use Rattle.script_core.specs.declared.script.Cause.{Cause}
-use Rattle.script_core.specs.declared.script.Cause.TheVariants.{TooLong}
-use Rattle.script_core.specs.declared.script.ScriptFault.{ScriptFault}
-use Rattle.script_core.specs.declared.header.Header.{Header}
-use Rattle.script_core.specs.ScriptText.{Meaning}
-use Rattle.script_core.specs.Words.{without_empty_end, lines_of, script_limit}
-use Rattle.script_core.specs.Reading.{Reading, LineGives, LinesGive, IsArrival, ComesTo, IsAtHand, IsOfScript, Reads, reading_after, start}
-use Rattle.script_core.specs.ScriptView.{IsReadUpTo, reading_of, arrival_of}
+use Rattle.script_core.specs.Reading.{IsArrival, ComesTo, IsAtHand, start}
+use Rattle.script_core.specs.ScriptView.{IsReadUpTo, arrival_of}
 use Rattle.script_core.proofs.FaultLemmas.{never_memory}
 
 -- there is always a first piece

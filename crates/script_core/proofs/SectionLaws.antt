@@ -1,8 +1,8 @@
 -- What a word names in the language without sections: for `sections_name_nothing_else`.
-use Rattle.std.proofs.Common.{arith, ◌≡◌, ◌∷◌, [], ℕ, List, Bool, true, false, filter, find, not, bytes_eq, ap, refl, ◌∙◌}
-use Rattle.std.proofs.lemmas.Grind.{common_steps}
+use Rattle.script_core.proofs.Common.{arith, ◌≡◌, ◌∷◌, [], ℕ, List, Bool, true, false, filter, not, bytes_eq, ap, refl, ◌∙◌, common_steps, Command}
+use Rattle.std.proofs.Common.{find}
 use Rattle.std.proofs.lemmas.Slice.Eq.{bytes_eq-Decides}
-use Rattle.script_core.specs.Arguments.{Command, commands}
+use Rattle.script_core.specs.Arguments.{commands}
 use Rattle.script_core.specs.WithoutSections.{SectionsNameNothingElse, is_of_sections}
 
 -- what is looked for is found, if a filter keeps it

@@ -1,19 +1,9 @@
 -- The lines that tell a state begin with `#`: for `explanations_are_comments`.
-use Rattle.std.proofs.Common.{arith, ◌≡◌, ◌==◌, ℕ, Bool, true, false, MatchBool, List, [], ◌∷◌, ◌++◌, flat_map, codes, decimal, refl, sym, subst, append_assoc}
-use Rattle.std.proofs.lemmas.Grind.{common_steps}
-use Rattle.fd_table.specs.Descriptors.{descriptor_limit}
-use Rattle.lock_manager.specs.declared.request.Rules.{Rules}
-use Rattle.lock_manager.specs.declared.request.ProcState.{ProcState}
-use Rattle.lock_manager.specs.declared.request.Visit.{Visit}
-use Rattle.lock_manager.specs.State.{State}
-use Rattle.script_core.specs.declared.states.States.{States}
+use Rattle.script_core.proofs.Common.{arith, ◌≡◌, ◌==◌, ℕ, Bool, true, false, MatchBool, List, [], ◌∷◌, ◌++◌, flat_map, codes, decimal, refl, sym, subst, append_assoc, common_steps, descriptor_limit, Rules, ProcState, Visit, State, States, StateLine, visit_words, held_text, wait_text, state_word, marked_line, IsStateText, IsChangesText, TellsState}
 use Rattle.script_core.specs.declared.states.States.TheVariants as places
 use Rattle.script_core.specs.declared.state_lines.Opened.{Opened}
-use Rattle.script_core.specs.declared.state_lines.StateLine.{StateLine}
 use Rattle.script_core.specs.declared.state_lines.StateLine.TheVariants as lines
-use Rattle.script_core.specs.RequestText.{visit_words}
-use Rattle.script_core.specs.ReportText.{held_text, wait_text, state_word}
-use Rattle.script_core.specs.StateText.{marked_line, state_line_text, opened_text, IsStateText, IsChangesText, TellsState}
+use Rattle.script_core.specs.StateText.{state_line_text, opened_text}
 use Rattle.script_core.specs.Explaining.{is_comment_line}
 use Rattle.script_core.proofs.CommentLaws.{InLine, IsComment, both, number, comment_none, comment_line, comment_both, comment_each, in_access, in_held, in_wait, in_state}
 

@@ -1,30 +1,13 @@
 -- The lines of a state, one after another: for `write_explained`, clause `ok`; and what words ask for no state: for `States::of_word`.
-use Rattle.std.proofs.lemmas.Grind.{common_steps, flat_map-append}
-use Rattle.std.proofs.Common.{ℕ, zero, suc, ◌≡◌, ◌≢◌, ◌<◌, ◌+◌, Some, None, get_or, slice_get, length, drop, take, subst, ⊎_elim, List, [], ◌∷◌, ◌++◌, inl, inr, refl, sym, ap, ◌∙◌, codes, arith, append_assoc, append-nil, add-one, ne_eqb, ◌==◌, ◌≤◌, false, Option, decimal, map, flat_map, OnOk, Result, Ok, Err, MatchResult}
-use Rattle.fd_table.specs.declared.TheConstants.{FILES}
-use Rattle.std.proofs.lemmas.Fmt.{decimal_digit, decimal_injective}
-use Rattle.std.proofs.lemmas.Bool.{cases_eq}
+use Rattle.script_core.proofs.Common.{common_steps, ℕ, zero, suc, ◌≡◌, ◌≢◌, ◌<◌, ◌+◌, Some, None, get_or, slice_get, length, drop, take, subst, ⊎_elim, List, [], ◌∷◌, ◌++◌, inl, inr, refl, sym, ap, ◌∙◌, codes, arith, append_assoc, append-nil, add-one, ne_eqb, ◌==◌, ◌≤◌, false, Option, decimal, map, flat_map, Result, Ok, Err, MatchResult, decimal_digit, decimal_injective, cases_eq, get_or_from_slice_get, slice_get-get_or, slice_get_within}
+use Rattle.script_core.proofs.Common.{FILES, Look, Descriptors, look_at, descriptor_limit, Held, mode_in, flock_mode_in, IsHeldReport, Wait, ProcState, Rules, Manager, Visit, State, Visits, StandsFor, processes_of, state_at, Extends, States, StateLine, AreStateLines, IsChangesText, IsStateText, TellsState, marked_line}
+use Rattle.std.proofs.lemmas.Grind.{flat_map-append}
+use Rattle.std.proofs.Common.{OnOk}
 use Rattle.std.proofs.lemmas.List.{take_more}
-use Rattle.std.proofs.lemmas.Option.{get_or_from_slice_get, slice_get-get_or, slice_get_within}
-use Rattle.fd_table.specs.declared.tables.Look.{Look}
-use Rattle.fd_table.specs.Descriptors.{Descriptors, look_at, descriptor_limit}
-use Rattle.lock_book.specs.declared.Held.{Held}
-use Rattle.lock_book.specs.Changes.{mode_in, flock_mode_in}
-use Rattle.lock_book.specs.Reports.{IsHeldReport}
-use Rattle.wait_core.specs.declared.Wait.{Wait}
-use Rattle.lock_manager.specs.declared.request.ProcState.{ProcState}
-use Rattle.lock_manager.specs.declared.request.Rules.{Rules}
-use Rattle.lock_manager.specs.declared.manager.Manager.{Manager}
 use Rattle.lock_manager.specs.declared.request.TheConstants.{SECTIONS}
-use Rattle.lock_manager.specs.declared.request.Visit.{Visit}
-use Rattle.lock_manager.specs.State.{State, Visits}
-use Rattle.lock_manager.specs.ManagerView.{StandsFor, processes_of, state_at}
-use Rattle.script_core.specs.Output.{Extends}
-use Rattle.script_core.specs.declared.states.States.{States}
 use Rattle.script_core.specs.declared.states.States.TheVariants as places
-use Rattle.script_core.specs.declared.state_lines.StateLine.{StateLine}
 use Rattle.script_core.specs.declared.state_lines.StateLine.TheVariants as lines
-use Rattle.script_core.specs.StateText.{AreMissing, AreStateLines, AreToldAgainst, AsksForNoState, IsAmong, IsChangesText, IsKept, IsStateText, TellsState, marked_line, standing_line, standing_lines, descriptor_line, descriptor_lines, all_descriptor_lines, visit_line, visit_lines, section_lines, size_line, size_lines}
+use Rattle.script_core.specs.StateText.{AreMissing, AreToldAgainst, AsksForNoState, IsAmong, IsKept, standing_line, standing_lines, descriptor_line, descriptor_lines, all_descriptor_lines, visit_line, visit_lines, section_lines, size_line, size_lines}
 
 -- where no process stands
 pub none_standing : (states : ℕ → ProcState) (old : List StateLine) → old ≡ old ++ standing_lines states 0

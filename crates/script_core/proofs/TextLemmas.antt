@@ -1,11 +1,9 @@
 -- Texts in pieces: for `push_never_taken`, `push_cycle`, `push_descriptors` and others.
-use Rattle.std.proofs.lemmas.Grind.{common_steps}
-use Rattle.std.proofs.Common.{◌≡◌, ◌∙◌, ℕ, ◌+◌, ◌-◌, ◌/◌, ◌%◌, ◌<◌, ◌≤◌, decimal, List, [], ◌∷◌, ◌++◌, length, take, drop, set, flat_map, Result, MatchResult, sym, ap, arith, append_assoc, append-nil, length-drop}
-use Rattle.std.specs.List.{join_with_byte}
+use Rattle.script_core.proofs.Common.{common_steps, ◌≡◌, ◌∙◌, ℕ, ◌+◌, ◌-◌, ◌<◌, ◌≤◌, decimal, List, [], ◌∷◌, ◌++◌, length, take, drop, set, flat_map, Result, MatchResult, sym, ap, arith, append_assoc, append-nil, join_with_byte, decimal_digit, take-append_seam, Extends}
+use Rattle.std.proofs.Common.{◌/◌, ◌%◌, length-drop}
 use Rattle.std.proofs.lemmas.List.{drop-set}
-use Rattle.std.proofs.lemmas.Fmt.{decimal_digit, decimal_step}
-use Rattle.std.proofs.Math.Seq.{take-append_seam}
-use Rattle.script_core.specs.Output.{Extends, AppendsPartOf}
+use Rattle.std.proofs.lemmas.Fmt.{decimal_step}
+use Rattle.script_core.specs.Output.{AppendsPartOf}
 
 -- each further word stands behind its space
 pub join_words : (word : List ℕ) (words : List (List ℕ)) → join_with_byte 32 (word ∷ words) ≡ word ++ flat_map (λ w. 32 ∷ w) words

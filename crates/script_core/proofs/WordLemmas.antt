@@ -1,15 +1,11 @@
 -- The words of a line, space by space: for `first_words`.
-use Rattle.std.proofs.lemmas.Grind.{common_steps}
-use Rattle.std.proofs.Common.{◌≡◌, ◌≢◌, ◌∙◌, ℕ, suc, ◌+◌, ◌-◌, ◌<◌, ◌≤◌, false, List, [], ◌∷◌, ◌++◌, length, take, drop, sym, subst, ap, arith, lit<, ne_eqb, append_assoc, append-nil, ◌==◌, if◌then◌else◌, All}
+use Rattle.script_core.proofs.Common.{common_steps, ◌≡◌, ◌≢◌, ◌∙◌, ℕ, suc, ◌+◌, ◌-◌, ◌<◌, ◌≤◌, false, List, [], ◌∷◌, ◌++◌, length, take, drop, sym, subst, ap, arith, lit<, ne_eqb, append_assoc, append-nil, ◌==◌, if◌then◌else◌, All, length-take, take-append-drop, take_all, drop-cons, cases_lt, slice_split_none, words_of}
 use Rattle.std.specs.Str.{IsUtf8, IsCharBoundary}
 use Rattle.std.proofs.Math.ListN.{get_or}
-use Rattle.std.proofs.lemmas.List.{get_or-take, get_or-drop, length-take, length-drop, take-append-drop, take_all, drop-drop}
-use Rattle.std.proofs.Math.Seq.{drop-cons}
-use Rattle.std.proofs.lemmas.Bool.{cases_lt}
+use Rattle.std.proofs.lemmas.List.{get_or-take, get_or-drop, length-drop, drop-drop}
 use Rattle.std.proofs.lemmas.List.Elements.{All-from_get_or}
-use Rattle.std.proofs.lemmas.List.Splits.{slice_split_none, slice_split_at}
+use Rattle.std.proofs.lemmas.List.Splits.{slice_split_at}
 use Rattle.std.proofs.lemmas.Str.{IsCharBoundary-after_ascii}
-use Rattle.script_core.specs.Words.{words_of}
 
 -- words, and behind them a piece between spaces, which is one more where it isn't empty
 abbrev pub with_piece : List (List ℕ) → List ℕ → List (List ℕ)

@@ -1,13 +1,7 @@
 -- Answers among notes and events, counted and looked up: for `Session::find_answer`.
-use Rattle.std.proofs.Common.{arith, ℕ, ◌≡◌, ◌+◌, ◌<◌, refl, sym, ◌∙◌, ap, length, List, [], ◌∷◌, ◌++◌, Some, None, drop, get_or}
-use Rattle.std.proofs.lemmas.Grind.{common_steps}
+use Rattle.session_core.proofs.Common.{arith, ℕ, ◌≡◌, ◌+◌, ◌<◌, refl, sym, ◌∙◌, ap, length, List, [], ◌∷◌, ◌++◌, Some, None, drop, get_or, common_steps, Reply, Note, Answer, Waits, Event, answers_in, answers_from, reply_among}
 use Rattle.std.proofs.lemmas.List.{at_drop_more}
 use Rattle.std.proofs.lemmas.List.Folds.{find-append}
-use Rattle.lock_manager.specs.declared.request.Reply.{Reply}
-use Rattle.lock_manager.specs.declared.request.Note.{Note}
-use Rattle.lock_manager.specs.declared.request.Note.TheVariants.{Answer, Waits}
-use Rattle.session_core.specs.Event.{Event}
-use Rattle.session_core.specs.Mail.{answers_in, answers_from, reply_among}
 
 -- a reply that isn't among the first answers is the one among the others
 reply_among-after : (n : ℕ) (xs ys : List (ℕ × Reply × ℕ)) → reply_among n xs ≡ None → reply_among n (xs ++ ys) ≡ reply_among n ys

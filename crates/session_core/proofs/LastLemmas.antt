@@ -1,26 +1,13 @@
 -- The last answer to each process: as a journal grows, and by its number; for `Session::answer_of`, `Session::answered`, `Replay::answered` and
 -- others.
-use Rattle.std.proofs.Common.{rules, ℕ, zero, suc, ◌≡◌, ◌+◌, ◌<◌, ◌≤◌, refl, sym, ◌∙◌, ap, subst, arith, eq-eqb, ne_eqb, length, List, [], ◌∷◌, ◌++◌, Option, Some, None, IfSome, slice_get}
-use Rattle.std.proofs.lemmas.Grind.{common_steps}
-use Rattle.std.proofs.lemmas.Bool.{cases_lt}
-use Rattle.std.proofs.lemmas.List.{append-nil, nil_from_length}
+use Rattle.session_core.proofs.Common.{rules, ℕ, zero, suc, ◌≡◌, ◌+◌, ◌<◌, ◌≤◌, refl, sym, ◌∙◌, ap, subst, arith, eq-eqb, ne_eqb, length, List, [], ◌∷◌, ◌++◌, Option, Some, None, IfSome, slice_get, common_steps, cases_lt, append-nil}
+use Rattle.session_core.proofs.Common.{Request, Reply, Note, Answer, Waits, Manager, Mailbox, Event, events_of, answers_in, answers_from, answers_to, reply_among, mail_taken, taken_in, IsMailKept, latest, processes_in, last_of, AreLastAnswers, Holds}
+use Rattle.std.proofs.lemmas.List.{nil_from_length}
 use Rattle.std.proofs.lemmas.Option.{slice_get_past}
 use Rattle.std.proofs.Math.Logic.{∥∥₁_elim}
 use Rattle.std.proofs.Math.Bridge.{le_prop}
-use Rattle.lock_manager.specs.declared.request.Request.{Request}
-use Rattle.lock_manager.specs.declared.request.Reply.{Reply}
-use Rattle.lock_manager.specs.declared.request.Note.{Note}
-use Rattle.lock_manager.specs.declared.request.Note.TheVariants.{Answer, Waits}
-use Rattle.lock_manager.specs.declared.manager.Manager.{Manager}
 use Rattle.session_core.specs.declared.answers.Answer as declared
 use Rattle.session_core.specs.declared.answers.LastAnswers.{LastAnswers}
-use Rattle.session_core.specs.declared.mailbox.Mailbox.{Mailbox}
-use Rattle.session_core.specs.Event.{Event}
-use Rattle.session_core.specs.Runs.{events_of}
-use Rattle.session_core.specs.Mail.{answers_in, answers_from, answers_to, reply_among}
-use Rattle.session_core.specs.Mailboxes.{mail_taken, taken_in, IsMailKept}
-use Rattle.session_core.specs.LastAnswers.{latest, processes_in, last_of, AreLastAnswers}
-use Rattle.session_core.specs.Headline.{Holds}
 
 -- what is known last after more answers
 latest-append : (known : Option declared.Answer) (xs ys : List (ℕ × Reply × ℕ)) → latest known (xs ++ ys) ≡ latest (latest known xs) ys

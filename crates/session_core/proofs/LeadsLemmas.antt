@@ -1,11 +1,6 @@
 -- What events lead to: one state, through a state between, and by one event more; for `Replay::answered`, `Session::arrive`, `check_journal` and
 -- others.
-use Rattle.std.proofs.Common.{ℕ, ◌≡◌, refl, sym, ◌∙◌, subst, List, [], ◌∷◌, ◌++◌}
-use Rattle.lock_manager.specs.declared.request.Rules.{Rules}
-use Rattle.lock_manager.specs.State.{State}
-use Rattle.lock_manager.specs.OneOutcome.{StepHasOneOutcome}
-use Rattle.session_core.specs.Event.{Event}
-use Rattle.session_core.specs.Runs.{IsStep, Leads}
+use Rattle.session_core.proofs.Common.{ℕ, ◌≡◌, refl, sym, ◌∙◌, subst, List, [], ◌∷◌, ◌++◌, Rules, State, StepHasOneOutcome, Event, IsStep, Leads}
 
 -- one more step
 pub Leads-push : (rules : Rules) (processes : ℕ) (S : State) (events : List Event) (T : State) (event : Event) (U : State)

@@ -1,3 +1,4 @@
+mod Common
 pub mod AnswerLemmas
 pub mod ConstantLaws
 pub mod Crossing

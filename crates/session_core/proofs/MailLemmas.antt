@@ -1,30 +1,20 @@
 -- Mailboxes by process: what is written to one of them, and what stays; for `Session::arrive`, `Session::new`, `Session::next_mail` and others.
-use Rattle.std.proofs.Common.{rules, ℕ, zero, suc, ◌≡◌, ◌≢◌, ◌+◌, ◌-◌, ◌<◌, ◌≤◌, refl, sym, ◌∙◌, ap, subst, arith, length, length-append, take, drop, slice_get, set, get_or, List, [], ◌∷◌, ◌++◌, Some, Option, Result, Ok, Err, IfOk, eq-eqb, ne_eqb, ⊎_elim}
+use Rattle.session_core.proofs.Common.{rules, ℕ, zero, suc, ◌≡◌, ◌≢◌, ◌+◌, ◌-◌, ◌<◌, ◌≤◌, refl, sym, ◌∙◌, ap, subst, arith, length, length-append, take, drop, slice_get, set, get_or, List, [], ◌∷◌, ◌++◌, Some, Option, Result, Ok, Err, eq-eqb, ne_eqb, ⊎_elim, common_steps, ◌==◌, if◌then◌else◌, IsNone, IsTrue, length-set, length-map, append-nil, append_assoc, cases_eq}
+use Rattle.session_core.proofs.Common.{Request, Manager, events_of, manager_of, events_in, sent_of, Mailbox, ProcState, Live, next_untaken, taken_in, mail_waiting, mail_sent, mail_taken, IsMailKept, Event, requests_taken, Holds, request_limit}
+use Rattle.std.proofs.Common.{IfOk}
 use Rattle.std.proofs.Math.Seq.{take-append-add}
-use Rattle.std.proofs.lemmas.Grind.{common_steps}
-use Rattle.std.specs.Prelude.{◌==◌, if◌then◌else◌, IsNone, IsSome, IsTrue, OnErr}
-use Rattle.std.proofs.lemmas.List.{get_or-set_same, length-set, length-map, append-nil, append_assoc}
+use Rattle.std.specs.Prelude.{IsSome, OnErr}
+use Rattle.std.proofs.lemmas.List.{get_or-set_same}
 use Rattle.std.proofs.lemmas.Option.{slice_get-get_or}
-use Rattle.std.proofs.lemmas.Bool.{cases_eq}
 use Rattle.fd_table.specs.declared.Limits.{Limits}
 use Rattle.fd_table.specs.declared.Limits.TheVariants.{Small, Wide}
 use Rattle.fd_table.specs.Descriptors.{process_limit}
-use Rattle.lock_manager.specs.declared.request.Request.{Request}
-use Rattle.lock_manager.specs.declared.manager.Manager.{Manager}
 use Rattle.lock_manager.specs.ManagerView.{SameManager}
 use Rattle.session_core.specs.declared.session.Session.{Session}
-use Rattle.session_core.specs.Runs.{events_of}
-use Rattle.session_core.specs.SessionView.{manager_of, events_in, sent_of, SameSession, Arrives, TakesRequest, sent_with}
-use Rattle.session_core.specs.declared.mailbox.Mailbox.{Mailbox}
+use Rattle.session_core.specs.SessionView.{SameSession, Arrives, TakesRequest, sent_with}
 use Rattle.wait_core.specs.declared.processes.ProcessSet.{ProcessSet}
 use Rattle.wait_core.specs.Processes.{is_member}
-use Rattle.lock_manager.specs.declared.request.ProcState.{ProcState}
-use Rattle.lock_manager.specs.declared.request.ProcState.TheVariants.{Live}
-use Rattle.session_core.specs.Draining.{next_untaken}
-use Rattle.session_core.specs.Mailboxes.{mailbox_of, waiting_in, taken_in, mail_waiting, mail_sent, mail_taken, HasMail, IsInside, IsMailInside, IsMailKept}
-use Rattle.session_core.specs.Event.{Event}
-use Rattle.session_core.specs.Mail.{requests_taken}
-use Rattle.session_core.specs.Headline.{Holds, request_limit}
+use Rattle.session_core.specs.Mailboxes.{mailbox_of, waiting_in, HasMail, IsInside, IsMailInside}
 
 -- the place that is written has the new value
 pub slice_get-set_same : {X : Type 0} (xs : List X) (i : ℕ) (x : X) → i < length xs → slice_get (set xs i x) i ≡ Some x

@@ -1,13 +1,10 @@
 -- What `==` of notes says.
-use Rattle.std.proofs.Common.{arith, ◌≡◌, refl, subst, Bool, true, false, ◌&&◌}
-use Rattle.std.proofs.lemmas.Grind.{common_steps}
+use Rattle.session_core.proofs.Common.{arith, ◌≡◌, refl, subst, Bool, true, false, common_steps, Note, Answer, Waits, Reply}
+use Rattle.std.proofs.Common.{◌&&◌}
 use Rattle.std.specs.Bool.{Decides}
 use Rattle.std.proofs.lemmas.Bool.{eqb-true, eq-eqb}
 use Rattle.std.proofs.lemmas.Bool.Decides.{Decides-int_eq}
-use Rattle.lock_manager.specs.declared.request.Note.{Note}
-use Rattle.lock_manager.specs.declared.request.Note.TheVariants.{Answer, Waits}
 use Rattle.lock_manager.specs.contracts.request.NotePartialEq.TheImpl.{eq-value as note_eq}
-use Rattle.lock_manager.specs.declared.request.Reply.{Reply}
 use Rattle.lock_manager.specs.contracts.request.ReplyPartialEq.TheImpl.{eq-value as reply_eq}
 
 -- both tests are true

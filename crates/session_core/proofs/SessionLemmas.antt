@@ -1,16 +1,11 @@
 -- What a session shows, by its sequencer: for `Session::take_next`, `Session::take_one`, `run_all` and others.
-use Rattle.std.proofs.Common.{ℕ, ◌≡◌, ◌∙◌, refl, sym, subst, arith, true, length, Some, Result, Ok, Err, eq-eqb}
-use Rattle.std.proofs.lemmas.Grind.{common_steps}
-use Rattle.std.specs.Prelude.{IsNone, IsSome, OnErr, is_err}
+use Rattle.session_core.proofs.Common.{ℕ, ◌≡◌, ◌∙◌, refl, sym, subst, arith, true, length, Some, Result, Ok, Err, eq-eqb, common_steps, IsNone, Request, Live, state_at, manager_in, sent_by, waiting_at, HasTold, HasNoMail, manager_of, events_in, sent_of, next_untaken, IsDrained, events_of}
+use Rattle.std.specs.Prelude.{IsSome, OnErr, is_err}
 use Rattle.range_core.specs.declared.memory.Memory.{Memory}
-use Rattle.lock_manager.specs.declared.request.Request.{Request}
-use Rattle.lock_manager.specs.declared.request.ProcState.TheVariants.{Live}
-use Rattle.lock_manager.specs.ManagerView.{state_at}
 use Rattle.session_core.specs.declared.session.Session.{Session}
-use Rattle.session_core.specs.SequencerView.{manager_in, sent_by, waiting_at, first_waiting, HasTold, HasNoMail, HasNoneWaitingBelow}
-use Rattle.session_core.specs.SessionView.{manager_of, events_in, sent_of, SessionHolds, Arrives, SameSession, TakesOne, TakesRequest}
-use Rattle.session_core.specs.Draining.{next_untaken, HasNoMailBelow, IsDrained}
-use Rattle.session_core.specs.Runs.{events_of}
+use Rattle.session_core.specs.SequencerView.{first_waiting, HasNoneWaitingBelow}
+use Rattle.session_core.specs.SessionView.{SessionHolds, Arrives, SameSession, TakesOne, TakesRequest}
+use Rattle.session_core.specs.Draining.{HasNoMailBelow}
 use Rattle.session_core.proofs.MailLemmas.{next_untaken-waits, slice_get-behind}
 
 -- the headline holds at every moment

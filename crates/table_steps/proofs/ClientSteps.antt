@@ -1,22 +1,9 @@
 -- The steps by which a client posts keep the rule: for `fill` and `Client::post`.
-use Rattle.std.proofs.Common.{◌≡◌, ◌≢◌, ⊎_elim, ℕ, ◌+◌, ◌%◌, ◌<◌, ◌≤◌, List, [], ◌∷◌, ◌++◌, length, set, refl, sym, ap, ◌∙◌, subst, arith, length-append, length-set, append_assoc}
-use Rattle.std.proofs.Math.Nat.{mod-lt}
-use mathlib.Core.Option.{some, some-ne-none}
+use Rattle.table_steps.proofs.Common.{◌≡◌, ◌≢◌, ⊎_elim, ℕ, ◌+◌, ◌%◌, ◌<◌, ◌≤◌, List, [], ◌∷◌, ◌++◌, length, set, refl, sym, ap, ◌∙◌, subst, arith, length-append, length-set, append_assoc, mod-lt, some, some-ne-none}
+use Rattle.table_steps.proofs.Common.{State, Step, keeps, Allows, Request, requests_taken, Setup, View, Client, ClientView, DeskView, request_spelled, RequestFits, Place, posted, taken, answered, request, answer, index_of, IsPlace, IsProcess, owner_of, word_at, client_of, tally_at, CellHas, request_cell, Agrees, Kept, Seated, HasClient, client_posted}
 use lib.ListN.{get_elem?}
-use Rattle.atomic_table.specs.Table.{State, Step, keeps, Allows}
-use Rattle.lock_manager.specs.declared.request.Request.{Request}
 use Rattle.session_core.specs.declared.TheConstants.{N_MAX}
-use Rattle.session_core.specs.Mail.{requests_taken}
-use Rattle.table_steps.specs.declared.setup.Setup.{Setup}
-use Rattle.table_steps.specs.declared.view.View.{View}
-use Rattle.table_steps.specs.declared.view.View.TheVariants.{Client}
-use Rattle.table_steps.specs.declared.client_view.ClientView.{ClientView}
-use Rattle.table_steps.specs.declared.desk_view.DeskView.{DeskView}
-use Rattle.table_steps.specs.Spelling.{request_spelled, RequestFits}
-use Rattle.table_steps.specs.Places.{Place, posted, taken, answered, request, answer, index_of, IsPlace, IsProcess, owner_of, word_at}
-use Rattle.table_steps.specs.Views.{client_of, tally_at}
-use Rattle.table_steps.specs.Rule.{CellHas, request_cell, Agrees, Kept}
-use Rattle.table_steps.specs.Steps.{Seated, HasClient, client_filled, client_posted, Fills, Posts}
+use Rattle.table_steps.specs.Steps.{client_filled, Fills, Posts}
 use Rattle.table_steps.proofs.PlacesLaws.{stored_here, stored_else}
 use Rattle.table_steps.proofs.Pushing.{at_push, other_cell, prefix_none}
 use Rattle.table_steps.proofs.Frames.{before_length, request_six, request_cell_stays, answers_stay, answers_same, closing_same}

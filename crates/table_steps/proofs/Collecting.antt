@@ -1,28 +1,13 @@
 -- The steps by which a client collects keep the rule: for `Client::closed` and `Client::collect`.
-use Rattle.std.proofs.lemmas.Grind.{common_steps}
-use Rattle.std.proofs.lemmas.List.{set-get_or}
+use Rattle.table_steps.proofs.Common.{common_steps, set-get_or, ◌≡◌, ◌⊎◌, ⊎_elim, ℕ, ◌+◌, ◌<◌, ◌≤◌, Bool, true, false, eq-eqb, List, [], ◌∷◌, ◌++◌, length, get_or, set, refl, sym, ap, ◌∙◌, subst, arith, length-append, append_assoc, some}
+use Rattle.table_steps.proofs.Common.{State, Step, keeps, Allows, Reply, Event, IsRun, IsPrefixOf, answers_to, Setup, View, Client, ClientView, DeskView, answer_spelled, ReplyFits, Place, answered, index_of, IsProcess, word_at, tally_at, answer_cell, ClosingAgrees, Agrees, mark_of, Kept, Seated, HasClient}
 use Rattle.std.proofs.lemmas.Bool.{eqb-true}
-use Rattle.std.proofs.Common.{◌≡◌, ◌⊎◌, ⊎_elim, ℕ, ◌+◌, ◌<◌, ◌≤◌, Bool, true, false, eq-eqb, List, [], ◌∷◌, ◌++◌, length, get_or, set, refl, sym, ap, ◌∙◌, subst, arith, length-append, append_assoc}
 use Rattle.std.specs.Prelude.{◌||◌, ◌&&◌, ◌==◌}
-use mathlib.Core.Option.{some}
 use lib.ListN.{get_elem?}
-use Rattle.atomic_table.specs.Table.{State, Step, keeps, Allows}
 use Rattle.atomic_table.proofs.Lists.{at_longer}
 use Rattle.lock_manager.specs.State as manager
-use Rattle.lock_manager.specs.declared.request.Reply.{Reply}
-use Rattle.session_core.specs.Event.{Event}
-use Rattle.session_core.specs.Runs.{IsRun}
-use Rattle.session_core.specs.Mail.{IsPrefixOf, answers_in, answers_from, answers_to}
-use Rattle.table_steps.specs.declared.setup.Setup.{Setup}
-use Rattle.table_steps.specs.declared.view.View.{View}
-use Rattle.table_steps.specs.declared.view.View.TheVariants.{Client}
-use Rattle.table_steps.specs.declared.client_view.ClientView.{ClientView}
-use Rattle.table_steps.specs.declared.desk_view.DeskView.{DeskView}
-use Rattle.table_steps.specs.Spelling.{answer_spelled, ReplyFits}
-use Rattle.table_steps.specs.Places.{Place, answered, index_of, IsProcess, word_at}
-use Rattle.table_steps.specs.Views.{tally_at}
-use Rattle.table_steps.specs.Rule.{answer_cell, ClosingAgrees, Agrees, mark_of, Kept}
-use Rattle.table_steps.specs.Steps.{Seated, HasClient, client_found, client_read, client_collected, client_marked, IsSeen, Finds, Gets, Collects, Marks}
+use Rattle.session_core.specs.Mail.{answers_in, answers_from}
+use Rattle.table_steps.specs.Steps.{client_found, client_read, client_collected, client_marked, IsSeen, Finds, Gets, Collects, Marks}
 use Rattle.table_steps.proofs.Pushing.{some_at, prefix_more, prefix_all}
 use Rattle.table_steps.proofs.Frames.{answer_six, requests_same, answers_same, answers_found, closing_same}
 use Rattle.table_steps.proofs.Moves.{client_moves}

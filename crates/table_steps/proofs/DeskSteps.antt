@@ -1,25 +1,9 @@
 -- The steps by which the desk looks and reads keep the rule: for `look`.
-use Rattle.std.proofs.lemmas.Grind.{common_steps}
-use Rattle.std.proofs.lemmas.List.{set-get_or}
-use Rattle.std.proofs.Common.{◌≡◌, ℕ, ◌<◌, ◌≤◌, List, [], ◌∷◌, ◌++◌, length, get_or, set, refl, sym, ap, ◌∙◌, subst, arith}
-use native.Mathlib.Decide.{ℕ_discrete}
-use mathlib.Core.Logic.{dite}
-use mathlib.Core.Option.{some, none}
+use Rattle.table_steps.proofs.Common.{common_steps, set-get_or, ◌≡◌, ℕ, ◌<◌, ◌≤◌, List, [], ◌∷◌, ◌++◌, length, get_or, set, refl, sym, ap, ◌∙◌, subst, arith, ℕ_discrete, dite, some, none}
+use Rattle.table_steps.proofs.Common.{State, Step, keeps, Allows, Request, IsPrefixOf, requests_taken, Setup, View, Desk, ClientView, DeskView, Tally, request_spelled, RequestFits, Place, posted, index_of, IsProcess, word_at, desk_of, tally_at, request_cell, Agrees, Kept, mark_of, Seated, HasDesk, desk_looked, IsRunOf}
 use lib.ListN.{get_elem?}
-use Rattle.atomic_table.specs.Table.{State, Step, step, keeps, Allows}
-use Rattle.lock_manager.specs.declared.request.Request.{Request}
-use Rattle.session_core.specs.Mail.{IsPrefixOf, requests_taken}
-use Rattle.table_steps.specs.declared.setup.Setup.{Setup}
-use Rattle.table_steps.specs.declared.view.View.{View}
-use Rattle.table_steps.specs.declared.view.View.TheVariants.{Desk}
-use Rattle.table_steps.specs.declared.client_view.ClientView.{ClientView}
-use Rattle.table_steps.specs.declared.desk_view.DeskView.{DeskView}
-use Rattle.table_steps.specs.declared.tally.Tally.{Tally}
-use Rattle.table_steps.specs.Spelling.{request_spelled, RequestFits}
-use Rattle.table_steps.specs.Places.{Place, posted, index_of, IsProcess, word_at}
-use Rattle.table_steps.specs.Views.{desk_of, tally_at}
-use Rattle.table_steps.specs.Rule.{request_cell, Agrees, Kept, mark_of}
-use Rattle.table_steps.specs.Steps.{Seated, HasDesk, desk_looked, desk_read, Looks, Reads, IsRunOf}
+use Rattle.atomic_table.specs.Table.{step}
+use Rattle.table_steps.specs.Steps.{desk_read, Looks, Reads}
 use Rattle.table_steps.proofs.Pushing.{some_at, prefix_more, tally_here, tally_else}
 use Rattle.table_steps.proofs.Frames.{request_six, desk_stays}
 use Rattle.table_steps.proofs.Moves.{desk_moves}

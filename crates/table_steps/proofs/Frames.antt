@@ -1,19 +1,7 @@
 -- What holds of a process stays where its words and views stay: for `publish_for`.
-use Rattle.std.proofs.lemmas.Grind.{common_steps}
-use Rattle.std.proofs.Common.{◌≡◌, ℕ, zero, suc, ◌%◌, ◌<◌, ◌≤◌, Bool, List, [], ◌∷◌, length, refl, sym, ◌∙◌, arith, append-nil}
-use Rattle.std.proofs.Math.Nat.{mod-lt}
-use mathlib.Core.Option.{some, some-ne-none}
+use Rattle.table_steps.proofs.Common.{common_steps, ◌≡◌, ℕ, zero, suc, ◌%◌, ◌<◌, ◌≤◌, Bool, List, [], ◌∷◌, length, refl, sym, ◌∙◌, arith, append-nil, mod-lt, some, some-ne-none}
+use Rattle.table_steps.proofs.Common.{Request, Reply, Event, IsPrefixOf, requests_taken, answers_to, ClientView, DeskView, request_spelled, answer_spelled, Place, posted, taken, answered, request, answer, IsPlace, IsProcess, owner_of, tally_at, CellHas, request_cell, answer_cell, RequestsAgree, AnswersAgree, ClosingAgrees, Agrees}
 use lib.ListN.{get_elem?}
-use Rattle.lock_manager.specs.declared.request.Request.{Request}
-use Rattle.lock_manager.specs.declared.request.Reply.{Reply}
-use Rattle.session_core.specs.Event.{Event}
-use Rattle.session_core.specs.Mail.{IsPrefixOf, requests_taken, answers_to}
-use Rattle.table_steps.specs.declared.client_view.ClientView.{ClientView}
-use Rattle.table_steps.specs.declared.desk_view.DeskView.{DeskView}
-use Rattle.table_steps.specs.Spelling.{request_spelled, answer_spelled}
-use Rattle.table_steps.specs.Places.{Place, posted, taken, answered, request, answer, IsPlace, IsProcess, owner_of}
-use Rattle.table_steps.specs.Views.{tally_at}
-use Rattle.table_steps.specs.Rule.{CellHas, request_cell, answer_cell, RequestsAgree, AnswersAgree, ClosingAgrees, Agrees}
 
 pub before_length : {A : Type 0} (l : List A) (i : ℕ) (a : A) → get_elem? l i ≡ some a → i < length l
 before_length [] i a e = absurd (some-ne-none a (sym e))

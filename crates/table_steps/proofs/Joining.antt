@@ -1,30 +1,18 @@
 -- The opening, and the steps by which seats are split and joined, keep the rule: for `Desk::meet` and `open_hub`.
-use Rattle.std.proofs.lemmas.Grind.{common_steps, merely}
-use Rattle.std.proofs.Common.{◌≡◌, ◌≢◌, ⊎_elim, ℕ, zero, suc, ◌+◌, ◌<◌, ◌≤◌, Bool, true, eqb, cond, eq-eqb, ne_eqb, List, [], ◌∷◌, length, get_or, set, refl, sym, ap, ◌∙◌, subst, arith, length-set}
+use Rattle.table_steps.proofs.Common.{common_steps, ◌≡◌, ◌≢◌, ⊎_elim, ℕ, zero, suc, ◌+◌, ◌<◌, ◌≤◌, Bool, true, eq-eqb, List, [], ◌∷◌, length, get_or, set, refl, sym, ap, ◌∙◌, subst, arith, length-set, ℕ_discrete, dite, some, some-injective, some-ne-none, set-get_or}
+use Rattle.table_steps.proofs.Common.{Step, keeps, Allows, IsRun, IsPrefixOf, requests_taken, answers_to, Setup, View, Spent, Client, Desk, Both, ClientView, DeskView, Tally, Place, mark, words_of, word_at, AreInTurn, client_of, desk_of, new_client, Agrees, mark_of, Kept, Seated, met_desk, met_client, before_meeting}
+use Rattle.std.proofs.lemmas.Grind.{merely}
+use Rattle.std.proofs.Common.{eqb, cond, ne_eqb}
 use Rattle.std.specs.Prelude.{replicate}
-use native.Mathlib.Decide.{ℕ_discrete}
-use mathlib.Core.Logic.{dite}
-use mathlib.Core.Option.{some, some-injective, some-ne-none}
 use lib.ListN.{get_elem?, length-replicate}
-use Rattle.std.proofs.lemmas.List.{set-get_or}
-use Rattle.atomic_table.specs.Table.{Step, keeps, Allows, Splits, Joins, opening}
+use Rattle.atomic_table.specs.Table.{Splits, Joins, opening}
 use Rattle.atomic_table.proofs.Lists.{at_set, set_else, set_again}
 use Rattle.lock_manager.specs.State.{opening_state}
 use Rattle.lock_manager.specs.State as manager
-use Rattle.session_core.specs.Runs.{IsRun}
-use Rattle.session_core.specs.Mail.{IsPrefixOf, requests_taken, answers_to}
-use Rattle.table_steps.specs.declared.setup.Setup.{Setup}
-use Rattle.table_steps.specs.declared.view.View.{View}
-use Rattle.table_steps.specs.declared.view.View.TheVariants.{Spent, Client, Desk, Both}
-use Rattle.table_steps.specs.declared.client_view.ClientView.{ClientView}
 use Rattle.table_steps.specs.declared.before.Before.{Before}
-use Rattle.table_steps.specs.declared.desk_view.DeskView.{DeskView}
-use Rattle.table_steps.specs.declared.tally.Tally.{Tally}
-use Rattle.table_steps.specs.Places.{Place, mark, words_of, word_at}
-use Rattle.table_steps.specs.InTurn.{AreInTurn}
-use Rattle.table_steps.specs.Views.{client_of, desk_of, new_client, new_desk, opening_view}
-use Rattle.table_steps.specs.Rule.{Agrees, ClientStands, DeskStands, Outgrows, Stands, mark_of, Kept}
-use Rattle.table_steps.specs.Steps.{Seated, Compares, met_desk, met_client, before_meeting}
+use Rattle.table_steps.specs.Views.{new_desk, opening_view}
+use Rattle.table_steps.specs.Rule.{ClientStands, DeskStands, Outgrows, Stands}
+use Rattle.table_steps.specs.Steps.{Compares}
 use Rattle.table_steps.proofs.Pushing.{at_push, tally_here, tally_else}
 use Rattle.table_steps.proofs.Frames.{desk_stays, answers_found}
 use Rattle.table_steps.proofs.Moves.{with_client, client_here, client_else}

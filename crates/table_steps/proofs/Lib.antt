@@ -1,3 +1,4 @@
+mod Common
 pub mod SpellingLaws
 pub mod PlacesLaws
 pub mod Pushing

@@ -1,19 +1,9 @@
 -- A step of one seat keeps the rule where it keeps what holds of each process: for `Desk::close`, `Client::closed`, `Client::collect` and others.
-use Rattle.std.proofs.Common.{◌≡◌, ◌≢◌, ℕ, ◌<◌, ◌≤◌, eqb, cond, Bool, List, length, set, refl, sym, ap, ◌∙◌, subst, arith, ⊎_elim, eq-eqb, ne_eqb}
-use native.Mathlib.Decide.{ℕ_discrete}
-use mathlib.Core.Logic.{dite}
-use mathlib.Core.Option.{some}
+use Rattle.table_steps.proofs.Common.{◌≡◌, ◌≢◌, ℕ, ◌<◌, ◌≤◌, Bool, List, length, set, refl, sym, ap, ◌∙◌, subst, arith, ⊎_elim, eq-eqb, ℕ_discrete, dite, some, State, Setup, View, Spent, Client, Desk, Both, ClientView, DeskView, Place, mark, IsPlace, owner_of, word_at, Agrees, mark_of, Kept, IsRunOf}
+use Rattle.std.proofs.Common.{eqb, cond, ne_eqb}
 use lib.ListN.{get_elem?}
-use Rattle.atomic_table.specs.Table.{State}
 use Rattle.atomic_table.proofs.Lists.{at_set}
-use Rattle.table_steps.specs.declared.setup.Setup.{Setup}
-use Rattle.table_steps.specs.declared.view.View.{View}
-use Rattle.table_steps.specs.declared.view.View.TheVariants.{Spent, Client, Desk, Both}
-use Rattle.table_steps.specs.declared.client_view.ClientView.{ClientView}
-use Rattle.table_steps.specs.declared.desk_view.DeskView.{DeskView}
-use Rattle.table_steps.specs.Places.{Place, mark, IsPlace, owner_of, word_at}
-use Rattle.table_steps.specs.Rule.{Agrees, ClientStands, DeskStands, Stands, mark_of, Kept}
-use Rattle.table_steps.specs.Steps.{IsRunOf}
+use Rattle.table_steps.specs.Rule.{ClientStands, DeskStands, Stands}
 use Rattle.table_steps.proofs.Frames.{words_stay}
 
 -- the clients, where process p has this one

@@ -1,8 +1,9 @@
 -- Each place has a word of its own: for `Desk::close`, `Client::closed`, `make_clients` and `Desk::meet`.
-use Rattle.std.proofs.Common.{◌≡◌, ◌≢◌, ℕ, ◌+◌, ◌-◌, ◌*◌, ◌<◌, ◌≤◌, List, length, set, refl, sym, ap, ◌∙◌, subst, arith, get_or-set_other, get_or-set_same}
+use Rattle.table_steps.proofs.Common.{◌≡◌, ◌≢◌, ℕ, ◌+◌, ◌<◌, ◌≤◌, List, length, set, refl, sym, ap, ◌∙◌, subst, arith, Place, mark, posted, taken, answered, request, answer, index_of, words_of, IsProcess, IsPlace, word_at}
+use Rattle.std.proofs.Common.{◌-◌, ◌*◌, get_or-set_other, get_or-set_same}
 use Rattle.std.proofs.lemmas.Nat.{same_from_place, mul-add-lt}
 use Rattle.std.proofs.Math.Nat.{mul_comm, mul_assoc}
-use Rattle.table_steps.specs.Places.{Place, mark, posted, taken, answered, request, answer, cell_word, first_cell, index_of, words_of, IsProcess, IsPlace, word_at}
+use Rattle.table_steps.specs.Places.{cell_word, first_cell}
 
 one_word : (base x y i j : ℕ) → i < 6 → j < 6 → base + 6 * x + i ≡ base + 6 * y + j → (x ≡ y) × (i ≡ j)
 one_word base x y i j p q e = (omega arith, omega arith)

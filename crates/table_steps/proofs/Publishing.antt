@@ -1,25 +1,10 @@
 -- The steps by which the desk publishes answers and closes keep the rule: for `Desk::close`.
-use Rattle.std.proofs.Common.{◌≡◌, ◌≢◌, ◌⊎◌, ⊎_elim, ℕ, ◌+◌, ◌%◌, ◌<◌, ◌≤◌, true, List, [], ◌∷◌, ◌++◌, length, set, refl, sym, ap, ◌∙◌, subst, arith, length-append, length-set}
-use Rattle.std.proofs.Math.Nat.{mod-lt}
+use Rattle.table_steps.proofs.Common.{◌≡◌, ◌≢◌, ◌⊎◌, ⊎_elim, ℕ, ◌+◌, ◌%◌, ◌<◌, ◌≤◌, true, List, [], ◌∷◌, ◌++◌, length, set, refl, sym, ap, ◌∙◌, subst, arith, length-append, length-set, mod-lt, ℕ_discrete, dite, some, some-injective}
+use Rattle.table_steps.proofs.Common.{State, Step, keeps, Allows, Reply, IsPrefixOf, requests_taken, answers_to, Setup, View, Desk, ClientView, DeskView, Tally, answer_spelled, ReplyFits, Place, mark, posted, taken, answered, request, answer, index_of, IsPlace, IsProcess, owner_of, word_at, tally_at, CellHas, answer_cell, RequestsAgree, AnswersAgree, ClosingAgrees, Agrees, mark_of, Kept, Seated, HasDesk, IsRunOf}
 use Rattle.std.proofs.Math.Decide.{dec_lt}
-use native.Mathlib.Decide.{ℕ_discrete}
-use mathlib.Core.Logic.{dite}
-use mathlib.Core.Option.{some, some-injective}
 use lib.ListN.{get_elem?}
-use Rattle.atomic_table.specs.Table.{State, Step, keeps, Allows}
-use Rattle.lock_manager.specs.declared.request.Reply.{Reply}
-use Rattle.session_core.specs.Mail.{IsPrefixOf, requests_taken, answers_to}
-use Rattle.table_steps.specs.declared.setup.Setup.{Setup}
-use Rattle.table_steps.specs.declared.view.View.{View}
-use Rattle.table_steps.specs.declared.view.View.TheVariants.{Desk}
-use Rattle.table_steps.specs.declared.client_view.ClientView.{ClientView}
-use Rattle.table_steps.specs.declared.desk_view.DeskView.{DeskView}
-use Rattle.table_steps.specs.declared.tally.Tally.{Tally}
-use Rattle.table_steps.specs.Spelling.{answer_spelled, ReplyFits}
-use Rattle.table_steps.specs.Places.{Place, mark, posted, taken, answered, request, answer, index_of, IsPlace, IsProcess, owner_of, word_at}
-use Rattle.table_steps.specs.Views.{tally_at, with_tally}
-use Rattle.table_steps.specs.Rule.{CellHas, answer_cell, RequestsAgree, AnswersAgree, ClosingAgrees, Agrees, mark_of, Kept}
-use Rattle.table_steps.specs.Steps.{Seated, HasDesk, desk_filled, desk_published, FillsAnswer, Publishes, Closes, IsRunOf}
+use Rattle.table_steps.specs.Views.{with_tally}
+use Rattle.table_steps.specs.Steps.{desk_filled, desk_published, FillsAnswer, Publishes, Closes}
 use Rattle.table_steps.proofs.PlacesLaws.{stored_here, stored_else}
 use Rattle.table_steps.proofs.Pushing.{at_push, other_cell, prefix_length, tally_here, tally_else}
 use Rattle.table_steps.proofs.Frames.{before_length, answer_six, requests_stay, answer_cell_stays, words_stay, desk_stays}

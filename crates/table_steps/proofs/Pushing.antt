@@ -1,12 +1,9 @@
 -- The words of one place, and those of all others, after a store: for `Desk::close`, `Client::closed`, `Client::collect` and others.
-use Rattle.std.proofs.lemmas.Grind.{common_steps}
-use Rattle.std.proofs.Common.{◌≡◌, ◌≢◌, ℕ, suc, zero, ◌+◌, ◌%◌, ◌<◌, ◌≤◌, ◌⊎◌, inl, inr, List, [], ◌∷◌, ◌++◌, length, refl, sym, ap, ◌∙◌, subst, arith, length-append, append_assoc, append-nil}
-use mathlib.Core.Option.{some, some-injective, some-ne-none}
+use Rattle.table_steps.proofs.Common.{common_steps, ◌≡◌, ◌≢◌, ℕ, suc, zero, ◌+◌, ◌%◌, ◌<◌, ◌≤◌, ◌⊎◌, List, [], ◌∷◌, ◌++◌, length, refl, sym, ap, ◌∙◌, subst, arith, length-append, append_assoc, append-nil, some, some-injective, some-ne-none, IsPrefixOf, Tally, tally_at}
+use Rattle.std.proofs.Common.{inl, inr}
 use lib.ListN.{get_elem?}
 use Rattle.atomic_table.proofs.Lists.{one_turn}
-use Rattle.session_core.specs.Mail.{IsPrefixOf}
-use Rattle.table_steps.specs.declared.tally.Tally.{Tally}
-use Rattle.table_steps.specs.Views.{tally_at, with_tally}
+use Rattle.table_steps.specs.Views.{with_tally}
 
 -- one more at the end: an old element, or the new one at its place
 pub at_push : {A : Type 0} (l : List A) (a b : A) (j : ℕ) → get_elem? (l ++ a ∷ []) j ≡ some b

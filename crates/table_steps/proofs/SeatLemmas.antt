@@ -1,23 +1,10 @@
 -- A seat may take its step at the place that its function computes, and what it knows then: for the steps of the seats.
-use Rattle.std.proofs.lemmas.Grind.{common_steps}
-use Rattle.std.proofs.Common.{◌≡◌, ℕ, ◌+◌, ◌<◌, ◌≤◌, false, List, [], ◌∷◌, ◌++◌, length, sym, ap, ◌∙◌, subst, arith}
-use mathlib.Core.Option.{none}
-use Rattle.atomic_table.specs.Table.{Step, step, Allows, Splits, Joins}
-use Rattle.lock_manager.specs.declared.request.Request.{Request}
+use Rattle.table_steps.proofs.Common.{common_steps, ◌≡◌, ℕ, ◌+◌, ◌<◌, ◌≤◌, false, List, [], ◌∷◌, ◌++◌, length, sym, ap, ◌∙◌, subst, arith, none}
+use Rattle.table_steps.proofs.Common.{Step, Allows, Request, Event, requests_taken, Setup, Spent, Client, Desk, Both, ClientView, DeskView, AreInTurn, request_spelled, RequestFits, IsProcess, posted, taken, answered, index_of, client_of, desk_of, before_of, tally_at, new_client, Kept, request_cell, answer_cell, Seated, HasClient, HasDesk, client_posted, desk_looked, IsRunOf, met_desk, met_client, before_meeting}
+use Rattle.atomic_table.specs.Table.{step, Splits, Joins}
 use Rattle.session_core.specs.declared.TheConstants.{N_MAX}
-use Rattle.session_core.specs.Event.{Event}
-use Rattle.session_core.specs.Mail.{requests_taken}
-use Rattle.table_steps.specs.declared.setup.Setup.{Setup}
 use Rattle.table_steps.specs.declared.before.Before.{Before}
-use Rattle.table_steps.specs.declared.view.View.TheVariants.{Spent, Client, Desk, Both}
-use Rattle.table_steps.specs.declared.client_view.ClientView.{ClientView}
-use Rattle.table_steps.specs.declared.desk_view.DeskView.{DeskView}
-use Rattle.table_steps.specs.InTurn.{AreInTurn}
-use Rattle.table_steps.specs.Spelling.{request_spelled, RequestFits}
-use Rattle.table_steps.specs.Places.{IsProcess, posted, taken, answered, index_of}
-use Rattle.table_steps.specs.Views.{client_of, desk_of, before_of, tally_at, new_client}
-use Rattle.table_steps.specs.Rule.{Kept, request_cell, answer_cell}
-use Rattle.table_steps.specs.Steps.{Seated, HasClient, HasDesk, HasBoth, Fills, Posts, Finds, Gets, Collects, Looks, Reads, Takes, FillsAnswer, Publishes, client_posted, desk_looked, desk_published, desk_told, GoesOn, IsFilled, IsRunOf, joined, desk_parted, client_parted, desk_before, client_made, met_desk, met_client, before_meeting}
+use Rattle.table_steps.specs.Steps.{HasBoth, Fills, Posts, Finds, Gets, Collects, Looks, Reads, Takes, FillsAnswer, Publishes, desk_published, desk_told, GoesOn, IsFilled, joined, desk_parted, client_parted, desk_before, client_made}
 use Rattle.table_steps.proofs.SpellingLaws.{one_request}
 use Rattle.table_steps.proofs.ClientSteps.{may_fill, may_post}
 use Rattle.table_steps.proofs.Collecting.{may_find, may_get, may_collect}

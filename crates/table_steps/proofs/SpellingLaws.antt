@@ -1,6 +1,6 @@
 -- The six words determine the request, and the answer: for `read_request`.
-use Rattle.std.proofs.Common.{rules, arith, ◌≡◌, ◌≢◌, ◌<◌, ◌^◌, get_or, ℕ, ◌+◌, ◌*◌, ◌/◌, ◌%◌, refl, sym, ap, ◌∙◌, Bool, List, [], ◌∷◌}
-use Rattle.std.proofs.lemmas.Grind.{common_steps}
+use Rattle.table_steps.proofs.Common.{rules, arith, ◌≡◌, ◌≢◌, ◌<◌, get_or, ℕ, ◌+◌, ◌%◌, refl, sym, ap, ◌∙◌, Bool, List, [], ◌∷◌, common_steps, Request, Reply, request_spelled, RequestFits, answer_spelled, ReplyFits}
+use Rattle.std.proofs.Common.{◌^◌, ◌*◌, ◌/◌}
 use Rattle.std.specs.Prelude.{ℤ}
 use Rattle.std.specs.Int.RustNames.{FitsSigned}
 use Rattle.std.proofs.lemmas.Int.{to_z-of_z}
@@ -14,13 +14,11 @@ use Rattle.lock_manager.specs.declared.request.Lock.{Lock}
 use Rattle.lock_manager.specs.declared.request.LkCmd.{LkCmd}
 use Rattle.lock_manager.specs.declared.request.LkCmd.TheVariants as commands
 use Rattle.lock_manager.specs.declared.request.FlockOp.{FlockOp}
-use Rattle.lock_manager.specs.declared.request.Request.{Request}
 use Rattle.lock_manager.specs.declared.request.Request.TheVariants.{Lk, Exit}
 use Rattle.lock_manager.specs.declared.request.Visit.{Visit}
 use Rattle.lock_manager.specs.declared.request.Errno.{Errno}
-use Rattle.lock_manager.specs.declared.request.Reply.{Reply}
 use Rattle.lock_manager.specs.declared.request.Reply.TheVariants as replies
-use Rattle.table_steps.specs.Spelling.{word_of, number_in, access_code, access_in, mode_code, mode_in, kind_code, kind_in, whence_code, whence_in, op_code, op_in, visit_code, visit_of_code, flag_code, flag_in, command_code, command_in, request_spelled, request_of_words, lock_in, RequestFits, error_code, error_in, answer_spelled, reply_of_words, ReplyFits}
+use Rattle.table_steps.specs.Spelling.{word_of, number_in, access_code, access_in, mode_code, mode_in, kind_code, kind_in, whence_code, whence_in, op_code, op_in, visit_code, visit_of_code, flag_code, flag_in, command_code, command_in, request_of_words, lock_in, error_code, error_in, reply_of_words}
 
 -- a function of the six words
 abbrev pub of_six : {X : Type 0} → (ℕ → ℕ → ℕ → ℕ → ℕ → ℕ → X) → X → List ℕ → X

@@ -1,30 +1,14 @@
 -- The step by which the desk takes a request keeps the rule: for `Desk::close`, `find_next`, `publish_for` and others.
-use Rattle.std.proofs.lemmas.Grind.{common_steps}
+use Rattle.table_steps.proofs.Common.{common_steps, ◌≡◌, ◌≢◌, ℕ, ◌+◌, ◌<◌, ◌≤◌, true, false, eq-eqb, List, [], ◌∷◌, ◌++◌, length, set, refl, sym, ap, ◌∙◌, subst, arith, length-append, length-set, append-nil, ℕ_discrete, dite, some}
+use Rattle.table_steps.proofs.Common.{Step, keeps, Allows, Request, Reply, Event, IsRun, IsPrefixOf, requests_taken, answers_to, Setup, Desk, ClientView, DeskView, Tally, request_spelled, answer_spelled, RequestFits, Place, mark, posted, taken, answered, request, answer, index_of, IsPlace, IsProcess, word_at, tally_at, RequestsAgree, AnswersAgree, ClosingAgrees, Kept, Seated, HasDesk, AreInTurn}
 use Rattle.std.proofs.lemmas.List.Elements.{filter-append}
-use Rattle.std.proofs.Common.{◌≡◌, ◌≢◌, ℕ, ◌+◌, ◌<◌, ◌≤◌, true, false, true≢false, eq-eqb, List, [], ◌∷◌, ◌++◌, length, set, refl, sym, ap, ◌∙◌, subst, arith, length-append, length-set, append-nil}
+use Rattle.std.proofs.Common.{true≢false}
 use Rattle.std.proofs.lemmas.List.{map-append}
-use native.Mathlib.Decide.{ℕ_discrete}
 use Rattle.std.proofs.Math.Decide.{dec_lt}
-use mathlib.Core.Logic.{dite}
-use mathlib.Core.Option.{some}
 use lib.ListN.{get_elem?}
-use Rattle.atomic_table.specs.Table.{Step, keeps, Allows}
 use Rattle.lock_manager.specs.State as manager
-use Rattle.lock_manager.specs.declared.request.Request.{Request}
-use Rattle.lock_manager.specs.declared.request.Reply.{Reply}
-use Rattle.session_core.specs.Event.{Event}
-use Rattle.session_core.specs.Runs.{IsRun}
-use Rattle.session_core.specs.Mail.{IsPrefixOf, requests_taken, answers_to}
-use Rattle.table_steps.specs.declared.setup.Setup.{Setup}
-use Rattle.table_steps.specs.declared.view.View.TheVariants.{Desk}
-use Rattle.table_steps.specs.declared.client_view.ClientView.{ClientView}
-use Rattle.table_steps.specs.declared.desk_view.DeskView.{DeskView}
-use Rattle.table_steps.specs.declared.tally.Tally.{Tally}
-use Rattle.table_steps.specs.Spelling.{request_spelled, answer_spelled, RequestFits}
-use Rattle.table_steps.specs.Places.{Place, mark, posted, taken, answered, request, answer, index_of, IsPlace, IsProcess, word_at}
-use Rattle.table_steps.specs.Views.{tally_at}
-use Rattle.table_steps.specs.Rule.{BeginsRequest, RequestsAgree, AnswersAgree, ClosingAgrees, Kept}
-use Rattle.table_steps.specs.Steps.{Seated, HasDesk, desk_took, Takes}
+use Rattle.table_steps.specs.Rule.{BeginsRequest}
+use Rattle.table_steps.specs.Steps.{desk_took, Takes}
 use Rattle.table_steps.proofs.SpellingLaws.{one_request}
 use Rattle.table_steps.proofs.PlacesLaws.{stored_here, stored_else}
 use Rattle.table_steps.proofs.Pushing.{some_at, at_front, prefix_more, prefix_all, prefix_longer, prefix_none}
@@ -32,7 +16,6 @@ use Rattle.table_steps.proofs.Frames.{request_six, answer_six, requests_stay, re
 use Rattle.table_steps.proofs.Moves.{desk_moves}
 use Rattle.table_steps.proofs.DeskSteps.{desk_is}
 use Rattle.table_steps.proofs.Collecting.{answers_front}
-use Rattle.table_steps.specs.InTurn.{AreInTurn}
 
 -- what one more event adds to the requests of a process that were taken
 pub taken_here : (p : ℕ) (H : List Event) (e : Event) → e.p ≡ p

@@ -1,12 +1,11 @@
 -- The worked values of crates/call_table/README.md.
-use Rattle.std.proofs.Common.{◌≡◌, ℕ, ◌+◌, pos, negsuc, refl}
+use Rattle.table_steps.proofs.Common.{◌≡◌, ℕ, ◌+◌, refl, index_of, words_of, request_cell, answer_cell, request_spelled}
+use Rattle.std.proofs.Common.{pos, negsuc}
 use Rattle.range_core.specs.declared.Kind.TheVariants.{Write}
 use Rattle.range_core.specs.declared.Whence.TheVariants.{Set}
 use Rattle.lock_manager.specs.declared.request.LkCmd.TheVariants.{SetLk}
 use Rattle.lock_manager.specs.declared.request.Request.TheVariants.{Lk}
-use Rattle.table_steps.specs.Places.{index_of, words_of}
-use Rattle.table_steps.specs.Rule.{request_cell, answer_cell}
-use Rattle.table_steps.specs.Spelling.{request_spelled, six}
+use Rattle.table_steps.specs.Spelling.{six}
 
 -- how many words there are: for two processes at depth 1, and in the largest table
 pub words_of_two : words_of 2 1 ≡ 31

@@ -1,7 +1,5 @@
 -- Some element of a list: ends, joins and filters; for `Wait::blocking_by_wait`.
-use Rattle.std.proofs.Common.{ℕ, ◌≡◌, ◌+◌, ◌<◌, ◌∙◌, ◌⊎◌, inl, inr, sym, ap, subst, refl, arith, Bool, true, false, zero, suc, List, [], ◌∷◌, ◌++◌, Any, length, get_or, take, drop}
-use Rattle.std.specs.List.{filter}
-use Rattle.std.proofs.lemmas.Bool.{cases_Bool}
+use Rattle.wait_core.proofs.Common.{ℕ, ◌≡◌, ◌+◌, ◌<◌, ◌∙◌, ◌⊎◌, inl, inr, sym, ap, subst, refl, arith, Bool, true, false, zero, suc, List, [], ◌∷◌, ◌++◌, Any, length, get_or, take, drop, filter, cases_Bool}
 use Rattle.std.proofs.lemmas.List.{get_or_append_left, get_or-append-add, length-append, take-append-drop}
 use Rattle.std.proofs.Math.Seq.{drop-cons, get_or-append_seam}
 

@@ -1,20 +1,9 @@
 -- Waits that stand behind no other one: for `Waits::is_behind` and `Waits::push`.
-use Rattle.std.proofs.lemmas.Grind.{common_steps}
-use Rattle.std.proofs.Common.{ℕ, ◌≡◌, ◌≢◌, ◌<◌, ◌≤◌, ◌↔◌, ◌∙◌, sym, subst, arith, Bool, List, [], ◌∷◌, ◌++◌, All, Any, length, get_or, take}
-use Rattle.std.specs.Prelude.{◌==◌, if◌then◌else◌, IsTrue, IsFalse}
-use Rattle.std.specs.List.{AllPairs}
-use Rattle.std.proofs.lemmas.Bool.{eq-eqb}
-use Rattle.std.proofs.lemmas.Bool.Decides.{nat_tests}
-use Rattle.std.proofs.lemmas.List.{get_or_default, get_or-take, length-take-le}
+use Rattle.wait_core.proofs.Common.{common_steps, ℕ, ◌≡◌, ◌≢◌, ◌<◌, ◌≤◌, ◌↔◌, ◌∙◌, sym, subst, arith, Bool, List, [], ◌∷◌, ◌++◌, All, Any, length, get_or, take, ◌==◌, if◌then◌else◌, IsTrue, IsFalse, AllPairs, eq-eqb, nat_tests, get_or_default, Policy, Queue, Wait, ProcessSet, WaitsConflict, is_member, IsWellFormed}
+use Rattle.std.proofs.lemmas.List.{get_or-take, length-take-le}
 use Rattle.std.proofs.lemmas.List.Quantifiers.{all_pairs_push}
-use Rattle.wait_core.specs.declared.Policy.{Policy}
-use Rattle.wait_core.specs.declared.Policy.TheVariants.{Queue}
-use Rattle.wait_core.specs.declared.Wait.{Wait}
-use Rattle.wait_core.specs.declared.processes.ProcessSet.{ProcessSet}
-use Rattle.wait_core.specs.Blocking.{IsQueued, WaitsConflict}
+use Rattle.wait_core.specs.Blocking.{IsQueued}
 use Rattle.wait_core.specs.Pairs.{IsBehindNone}
-use Rattle.wait_core.specs.Processes.{is_member}
-use Rattle.wait_core.specs.WellFormed.{IsWellFormed}
 
 -- a wait more, whose process is put into the set where it conflicts with one before it
 pub behind_joined : (old new : ProcessSet) (processes : ℕ) (waits : List Wait) (wait : Wait) (is_in : Bool) (policy : Policy) → processes ≤ 64

@@ -1,24 +1,10 @@
 -- Who blocks a wait: sets of processes, and what one wait more makes of them, and a process by its list; for
 -- `Wait::blocking_by_lock`, `Wait::blocking_by_wait` and `Wait::is_blocked_by_list`.
-use Rattle.std.proofs.Common.{ℕ, ◌≡◌, ◌≢◌, ◌+◌, ◌<◌, ◌↔◌, ◌∙◌, inl, inr, sym, ap, refl, subst, arith, true, false, Option, Some, None, List, [], ◌∷◌, ◌++◌, Any, length, get_or, take}
-use Rattle.std.specs.Prelude.{IsTrue, IfSome, IfNone, is_some, ◌==◌, ◌||◌}
-use Rattle.std.proofs.lemmas.Bool.{eqb-true, eq-eqb, or_left, or_right}
-use Rattle.std.proofs.lemmas.Bool.Decides.{nat_tests}
+use Rattle.wait_core.proofs.Common.{ℕ, ◌≡◌, ◌≢◌, ◌+◌, ◌<◌, ◌↔◌, ◌∙◌, inl, inr, sym, ap, refl, subst, arith, true, false, Option, Some, None, List, [], ◌∷◌, ◌++◌, Any, length, get_or, take, IsTrue, ◌==◌, ◌||◌, eqb-true, eq-eqb, or_left, or_right, nat_tests, Mode, Span, modes_of, Owner, Process, ByteModes, ProcessBlocks, Wait, ProcessSet, WaitsConflict, IsTraditional, IsConflictOf, is_member}
+use Rattle.std.specs.Prelude.{IfSome, IfNone, is_some}
 use Rattle.std.proofs.lemmas.List.{take_more}
-use Rattle.range_core.specs.declared.Mode.{Mode}
-use Rattle.range_core.specs.declared.Span.{Span}
 use Rattle.range_core.specs.declared.list.RangeList.{RangeList}
-use Rattle.range_core.specs.Changes.{modes_of}
 use Rattle.range_core.specs.Ranges.{Covers, HeldConflicts, IsFirstHit}
-use Rattle.lock_book.specs.declared.Owner.{Owner}
-use Rattle.lock_book.specs.declared.Owner.TheVariants.{Process}
-use Rattle.lock_book.specs.Conflicts.{ByteModes, ProcessBlocks}
-use Rattle.wait_core.specs.declared.Wait.{Wait}
-use Rattle.wait_core.specs.declared.processes.ProcessSet.{ProcessSet}
-use Rattle.wait_core.specs.Blocking.{WaitsConflict}
-use Rattle.wait_core.specs.Cycles.{IsTraditional}
-use Rattle.wait_core.specs.Pairs.{IsConflictOf}
-use Rattle.wait_core.specs.Processes.{is_member}
 use Rattle.wait_core.proofs.AnyLemmas.{Any-append, Any-append_left, Any-append_right, Any-here, Any-alone}
 use Rattle.wait_core.proofs.ProcessLemmas.{or_cases}
 

@@ -1,20 +1,6 @@
 -- A list of waits that is free of cycles stays so: for `stay_free_of_cycles`.
-use Rattle.std.proofs.lemmas.Grind.{common_steps}
-use Rattle.std.proofs.Common.{ℕ, ◌≡◌, ◌≢◌, ◌∙◌, ◌⊎◌, inl, inr, sym, ap, subst, refl, arith, Bool, true, not, List, [], ◌∷◌, ◌++◌, All, length}
-use Rattle.std.specs.Prelude.{◌==◌}
-use Rattle.std.specs.List.{filter}
-use Rattle.std.proofs.lemmas.Bool.{cases_Bool}
-use Rattle.range_core.specs.declared.Mode.{Mode}
-use Rattle.range_core.specs.declared.Span.{Span}
-use Rattle.lock_book.specs.declared.Owner.{Owner}
-use Rattle.lock_book.specs.declared.Owner.TheVariants.{Process}
-use Rattle.lock_book.specs.Conflicts.{ByteModes, ProcessBlocks}
-use Rattle.wait_core.specs.declared.Policy.{Policy}
-use Rattle.wait_core.specs.declared.Policy.TheVariants.{Held, Queue}
-use Rattle.wait_core.specs.declared.Wait.{Wait}
-use Rattle.wait_core.specs.Locks.{Locks}
-use Rattle.wait_core.specs.Cycles.{IsTraditional, IsBlockedByProcess, WaitsFor, IsChain, ClosesCycle}
-use Rattle.wait_core.specs.Pairs.{IsConflictOf}
+use Rattle.wait_core.proofs.Common.{common_steps, ℕ, ◌≡◌, ◌≢◌, ◌∙◌, ◌⊎◌, inl, inr, sym, ap, subst, refl, arith, Bool, true, not, List, [], ◌∷◌, ◌++◌, All, length, ◌==◌, filter, cases_Bool, Mode, Span, Owner, Process, ByteModes, ProcessBlocks, Policy, Held, Queue, Wait, Locks, IsTraditional, IsBlockedByProcess, WaitsFor, IsConflictOf}
+use Rattle.wait_core.specs.Cycles.{IsChain, ClosesCycle}
 use Rattle.wait_core.specs.FreeOfCycles.{FreeWhenOneJoins, FreeWhenOneLeaves, FreeWhenLocksChange, FreeWhenDescriptionLocksChange}
 use Rattle.wait_core.proofs.AnyLemmas.{Any-weaker, Any-unfilter, split_within, split_is}
 use Rattle.wait_core.proofs.ReachLemmas.{chain_append, chain_start, not_own_blocker}

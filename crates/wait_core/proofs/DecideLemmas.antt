@@ -1,29 +1,15 @@
 -- Who waits for whom by a lock can be decided, and which waits are blocked. So what is told of it is known, where it is only known that it is told:
 -- for `Waits::is_blocked_among`, `Waits::is_led_back`, `Waits::next_ready_among` and `Waits::next_ready_on_changed`.
-use Rattle.std.proofs.lemmas.Grind.{common_steps}
-use Rattle.std.proofs.Common.{ℕ, ◌≡◌, ◌≢◌, ◌⊎◌, inl, inr, arith, List, [], ◌∷◌, ◌++◌, Any, Option, Some, None}
-use Rattle.std.specs.Prelude.{slice_get}
-use Rattle.std.proofs.Math.Logic.{∥∥₁_elim, ∥∥₁_map}
-use Rattle.std.proofs.lemmas.Bool.{cases_eq, cases_lt, cases_Bool}
-use Rattle.range_core.specs.declared.Mode.{Mode}
-use Rattle.range_core.specs.declared.Span.{Span}
+use Rattle.wait_core.proofs.Common.{common_steps, ℕ, ◌≡◌, ◌≢◌, ◌⊎◌, inl, inr, arith, List, [], ◌∷◌, ◌++◌, Any, Option, Some, None, slice_get, ∥∥₁_elim, ∥∥₁_map, cases_eq, cases_lt, cases_Bool, Mode, Span, Owner, Bytes, Policy, Held, Queue, Wait, Waits, Locks, byte_modes_at, locks_of, IsBlocked, Meet, WaitsConflict, WaitsFor, IsBlockedWait, waits_of, has_pair, AreTold}
 use Rattle.range_core.specs.Ranges.{Conflict}
-use Rattle.lock_book.specs.declared.Owner.{Owner}
 use Rattle.lock_book.specs.declared.book.Book.{Book}
 use Rattle.lock_book.specs.Conflicts.{ByteConflict, FlockConflict}
 use Rattle.lock_book.specs.Decided.{ByteConflictIsDecided, FlockConflictIsDecided, ProcessBlocksIsDecided}
 use Rattle.wait_core.specs.declared.Family.{Family}
-use Rattle.wait_core.specs.declared.Family.TheVariants.{Bytes, Whole}
-use Rattle.wait_core.specs.declared.Policy.{Policy}
-use Rattle.wait_core.specs.declared.Policy.TheVariants.{Held, Queue}
-use Rattle.wait_core.specs.declared.Wait.{Wait}
-use Rattle.wait_core.specs.declared.waits.Waits.{Waits}
-use Rattle.wait_core.specs.Locks.{Locks, byte_modes_at, flock_modes_at, locks_of}
-use Rattle.wait_core.specs.Blocking.{IsBlocked, IsBlockedIn, Meet, WaitsConflict}
-use Rattle.wait_core.specs.Cycles.{WaitsFor}
-use Rattle.wait_core.specs.Pairs.{IsBlockedWait}
+use Rattle.wait_core.specs.declared.Family.TheVariants.{Whole}
+use Rattle.wait_core.specs.Locks.{flock_modes_at}
+use Rattle.wait_core.specs.Blocking.{IsBlockedIn}
 use Rattle.wait_core.specs.Settled.{AllBlockedWhere}
-use Rattle.wait_core.specs.WaitsView.{waits_of, has_pair, AreTold}
 use Rattle.wait_core.proofs.AnyLemmas.{Any-nil, Any-here, Any-there, Any-cons}
 use Rattle.wait_core.proofs.PairLemmas.{blocked_wait, waits_by_lock}
 

@@ -1,25 +1,14 @@
 -- The waits that are on a file, and one turn of a loop over them: for `Pairs::tell_all`, `Waits::on`, `Waits::refresh_owner` and others.
-use Rattle.std.proofs.Common.{ℕ, ◌≡◌, ◌≢◌, ◌+◌, ◌<◌, ◌≤◌, ◌↔◌, ◌∙◌, ◌⊎◌, inl, inr, refl, sym, ap, subst, arith, Bool, true, false, not, Option, None, Some, List, [], ◌∷◌, ◌++◌, All, Any, Bor, length, length-append, get_or}
-use Rattle.std.specs.Prelude.{◌==◌, if◌then◌else◌, IsTrue}
+use Rattle.wait_core.proofs.Common.{ℕ, ◌≡◌, ◌≢◌, ◌+◌, ◌<◌, ◌≤◌, ◌↔◌, ◌∙◌, ◌⊎◌, inl, inr, refl, sym, ap, subst, arith, Bool, true, false, not, Option, None, Some, List, [], ◌∷◌, ◌++◌, All, Any, length, get_or, ◌==◌, if◌then◌else◌, IsTrue, filter, deref, cases_Bool, cases_eq, nat_tests, get_or_default, get_or_from_slice_get, All-nil, All-cons, All-head, All-tail, All-weaker, Span, Bytes, Wait, Meet, WaitsConflict, IsConflictOf, IsOn, first_process, AreQueues, links_in, waits_on, IsWellFormed}
+use Rattle.std.proofs.Common.{Bor, length-append}
 use Rattle.std.specs.Iterator.{Yields}
 use Rattle.std.specs.Bool.{MatchBool}
-use Rattle.std.specs.List.{AllWithin, HoldsAt, filter}
-use Rattle.std.specs.Map.Iter.{TakesFirst, deref}
-use Rattle.std.proofs.lemmas.Bool.{cases_Bool, cases_eq}
-use Rattle.std.proofs.lemmas.Bool.Decides.{nat_tests}
-use Rattle.std.proofs.lemmas.List.{get_or_default}
+use Rattle.std.specs.List.{AllWithin, HoldsAt}
+use Rattle.std.specs.Map.Iter.{TakesFirst}
 use Rattle.std.proofs.lemmas.Map.Iter.{iter_turn}
-use Rattle.std.proofs.lemmas.Option.{get_or_from_slice_get}
-use Rattle.std.proofs.lemmas.List.Elements.{All-nil, All-cons, All-head, All-tail, All-weaker}
-use Rattle.range_core.specs.declared.Span.{Span}
-use Rattle.wait_core.specs.declared.Family.TheVariants.{Bytes}
-use Rattle.wait_core.specs.declared.Wait.{Wait}
 use Rattle.wait_core.specs.declared.queues.Queues.{Queues}
-use Rattle.wait_core.specs.Blocking.{Meet, WaitsConflict}
-use Rattle.wait_core.specs.Pairs.{IsConflictOf, IsOn}
-use Rattle.wait_core.specs.Links.{Lead, first_process}
-use Rattle.wait_core.specs.Queues.{AreQueues, links_in, waits_on, waits_onto, with_wait, without_wait}
-use Rattle.wait_core.specs.WellFormed.{IsWellFormed}
+use Rattle.wait_core.specs.Links.{Lead}
+use Rattle.wait_core.specs.Queues.{waits_onto, with_wait, without_wait}
 use Rattle.wait_core.proofs.AnyLemmas.{Any-cons, Any-here, Any-nil, Any-there, Any-weaker}
 
 -- in a turn of a loop over the waits this one is next, behind those so far

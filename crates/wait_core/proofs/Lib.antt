@@ -1,3 +1,4 @@
+mod Common
 pub mod AnyLemmas
 pub mod BehindLemmas
 pub mod BlockingLemmas

@@ -1,16 +1,10 @@
 -- The links from wait to wait, and what a wait that joins or leaves makes of them: for `Queues::join`, `Queues::leave` and `Queues::on`.
-use Rattle.std.proofs.Common.{ℕ, ◌≡◌, ◌≢◌, ◌≤◌, ◌∙◌, ◌⊎◌, inl, inr, refl, sym, ap, subst, arith, true, false, not, zero, suc, Option, None, Some, List, [], ◌∷◌, All, Any, length, get_or}
-use Rattle.std.specs.Prelude.{◌==◌, if◌then◌else◌}
+use Rattle.wait_core.proofs.Common.{ℕ, ◌≡◌, ◌≢◌, ◌≤◌, ◌∙◌, ◌⊎◌, inl, inr, refl, sym, ap, subst, arith, true, false, not, zero, suc, Option, None, Some, List, [], ◌∷◌, All, Any, length, get_or, ◌==◌, if◌then◌else◌, cases_eq, nat_tests, AllPairs, All-nil, All-cons, All-head, All-tail, All-weaker, Wait, IsLed, first_process, follow, without_wait_of}
 use Rattle.std.specs.Option.{option_map_or}
-use Rattle.std.proofs.lemmas.Bool.{cases_eq}
-use Rattle.std.proofs.lemmas.Bool.Decides.{nat_tests}
-use Rattle.std.specs.List.{AllPairs}
 use Rattle.std.proofs.lemmas.List.Kept.{AllPairs-cons}
-use Rattle.std.proofs.lemmas.List.Elements.{All-nil, All-cons, All-head, All-tail, All-weaker, All-filter}
-use Rattle.wait_core.specs.declared.Wait.{Wait}
-use Rattle.wait_core.specs.Links.{IsLed, Links, Lead, Leaves, Stands, first_process, follow}
+use Rattle.std.proofs.lemmas.List.Elements.{All-filter}
+use Rattle.wait_core.specs.Links.{Links, Lead, Leaves, Stands}
 use Rattle.wait_core.specs.Queues.{with_wait, without_wait}
-use Rattle.wait_core.specs.WaitsView.{without_wait_of}
 use Rattle.wait_core.proofs.AnyLemmas.{Any-cons, Any-here, Any-nil, Any-there}
 use Rattle.wait_core.proofs.ListLemmas.{all_stay}
 

@@ -1,25 +1,19 @@
 -- The list of waits: its room, what it finds, and which of it are blocked; for `Waits::leave`, `Waits::list`,
 -- `Waits::next_ready_among` and `Waits::push`.
-use Rattle.std.proofs.lemmas.Grind.{common_steps}
-use Rattle.std.proofs.Common.{ℕ, None, ◌≡◌, ◌≢◌, ◌+◌, ◌<◌, ◌≤◌, ◌∙◌, inl, inr, sym, ap, subst, refl, arith, append_assoc, append-nil, true, false, Some, None, List, [], ◌∷◌, ◌++◌, All, length, get_or, map, zero, suc, take, drop}
-use Rattle.std.specs.Prelude.{◌==◌, slice_get}
-use Rattle.std.specs.List.{AllPairs, position, remove}
-use Rattle.std.proofs.lemmas.Bool.{cases_eq, eqb-true}
-use Rattle.std.proofs.lemmas.Bool.Decides.{nat_tests, Decides-eqb}
-use Rattle.std.proofs.lemmas.List.Elements.{All-nil, All-cons, All-head, All-tail, All-map, All-weaker}
+use Rattle.wait_core.proofs.Common.{common_steps, ℕ, None, ◌≡◌, ◌≢◌, ◌+◌, ◌<◌, ◌≤◌, ◌∙◌, inl, inr, sym, ap, subst, refl, arith, append_assoc, true, false, Some, None, List, [], ◌∷◌, ◌++◌, All, length, get_or, zero, suc, take, drop, ◌==◌, slice_get, AllPairs, cases_eq, eqb-true, nat_tests, All-nil, All-cons, All-head, All-tail, All-weaker, slice_get-get_or, Policy, Wait, Locks, AllBlocked, IsBlocked, IsWellFormed, without_wait_of}
+use Rattle.std.proofs.Common.{append-nil, map}
+use Rattle.std.specs.List.{position, remove}
+use Rattle.std.proofs.lemmas.Bool.Decides.{Decides-eqb}
+use Rattle.std.proofs.lemmas.List.Elements.{All-map}
 use Rattle.std.proofs.lemmas.List.Folds.{Any-from_list_any, find_at}
 use Rattle.std.proofs.lemmas.List.Kept.{AllPairs-cons}
 use Rattle.std.proofs.lemmas.List.Quantifiers.{position-Some}
 use Rattle.std.proofs.lemmas.List.{get_or-map, take_more}
 use Rattle.std.proofs.lemmas.Map.Made.{IsDistinct-from_AllPairs}
 use Rattle.std.proofs.lemmas.Map.Steps.{length-le_from_distinct_below}
-use Rattle.std.proofs.lemmas.Option.{slice_get-get_or, slice_get_cases, slice_get_past}
-use Rattle.wait_core.specs.declared.Policy.{Policy}
-use Rattle.wait_core.specs.declared.Wait.{Wait}
-use Rattle.wait_core.specs.Locks.{Locks}
-use Rattle.wait_core.specs.Blocking.{AllBlocked, IsBlocked, IsNextReady}
-use Rattle.wait_core.specs.WellFormed.{IsWellFormed}
-use Rattle.wait_core.specs.WaitsView.{wait_of, without_wait_of}
+use Rattle.std.proofs.lemmas.Option.{slice_get_cases, slice_get_past}
+use Rattle.wait_core.specs.Blocking.{IsNextReady}
+use Rattle.wait_core.specs.WaitsView.{wait_of}
 use Rattle.wait_core.proofs.AnyLemmas.{split_at}
 
 -- where a process has no wait, each wait is another one's

@@ -1,35 +1,23 @@
 -- The lists of a book's owners, gone over in order, and the set of the processes that block: for `Wait::blocking_by_lock`.
-use Rattle.std.proofs.lemmas.Grind.{common_steps}
-use Rattle.std.proofs.Common.{ℕ, suc, ◌≡◌, ◌≢◌, ◌<◌, ◌≤◌, ◌==◌, ◌||◌, ◌↔◌, ◌∙◌, inl, inr, sym, ap, refl, subst, arith, Bool, true, Option, Some, None, List, [], ◌∷◌, ◌++◌, All, length, map}
-use Rattle.std.specs.Prelude.{IsTrue, slice_get, slice_index_or}
+use Rattle.wait_core.proofs.Common.{common_steps, ℕ, suc, ◌≡◌, ◌≢◌, ◌<◌, ◌≤◌, ◌↔◌, ◌∙◌, inl, inr, sym, ap, refl, subst, arith, Bool, true, Option, Some, None, List, [], ◌∷◌, ◌++◌, All, length, IsTrue, slice_get, AllPairs, cases_eq, or_right, nat_tests, All-cons, All-push, All-weaker, All-turn, get_or_from_slice_get, slice_get-get_or, Mode, Span, modes_of, Owner, Process, ByteModes, ProcessBlocks, ProcessSet, byte_modes_at, locks_of, is_member}
+use Rattle.std.proofs.Common.{◌==◌, ◌||◌, map}
+use Rattle.std.specs.Prelude.{slice_index_or}
 use Rattle.std.specs.Borrow.{Bor}
 use Rattle.std.specs.Iterator.{Yields}
-use Rattle.std.specs.List.{AllPairs}
 use Rattle.std.specs.Map.{lookup}
 use Rattle.std.specs.Map.Iter.{TakesFirst, deref_pair}
-use Rattle.std.proofs.lemmas.Bool.{cases_eq, or_right}
-use Rattle.std.proofs.lemmas.Bool.Decides.{nat_tests}
-use Rattle.std.proofs.lemmas.List.Elements.{All-cons, All-append, All-get_or, All-map, All-push, All-weaker}
+use Rattle.std.proofs.lemmas.List.Elements.{All-append, All-get_or, All-map}
 use Rattle.std.proofs.lemmas.Map.Entries.{place_from_lookup}
 use Rattle.std.proofs.lemmas.Map.Iter.{rest_so_far, rest_more}
-use Rattle.std.proofs.lemmas.Map.Views.{All-turn}
-use Rattle.std.proofs.lemmas.Option.{get_or_from_slice_get, slice_get-get_or, slice_get_within}
-use Rattle.range_core.specs.declared.Mode.{Mode}
-use Rattle.range_core.specs.declared.Span.{Span}
+use Rattle.std.proofs.lemmas.Option.{slice_get_within}
 use Rattle.range_core.specs.declared.list.RangeList.{RangeList}
-use Rattle.range_core.specs.Changes.{modes_of}
 use Rattle.range_core.specs.Ranges.{AreRuns, HeldConflicts, Modes}
-use Rattle.lock_book.specs.declared.Owner.{Owner}
-use Rattle.lock_book.specs.declared.Owner.TheVariants.{Process, Description}
+use Rattle.lock_book.specs.declared.Owner.TheVariants.{Description}
 use Rattle.lock_book.specs.declared.book.Book.{Book}
 use Rattle.lock_book.specs.Books.{byte_modes_of}
-use Rattle.lock_book.specs.Conflicts.{ByteModes, ProcessBlocks}
 use Rattle.lock_book.specs.OwnerLists.{AreFound, AreRising, modes_in_list}
 use Rattle.lock_book.specs.Owners.{IsBefore, is_same_owner}
-use Rattle.wait_core.specs.declared.processes.ProcessSet.{ProcessSet}
 use Rattle.wait_core.specs.declared.processes.TheConstants.{PROCESSES}
-use Rattle.wait_core.specs.Locks.{byte_modes_at, locks_of}
-use Rattle.wait_core.specs.Processes.{is_member}
 use Rattle.wait_core.proofs.BlockingLemmas.{inserted_same, inserted_other}
 
 -- owners that the test takes for one are one

@@ -1,32 +1,13 @@
 -- What the table of pairs tells, and what a change of the list or of the locks leaves of it: for `Pairs::all_told`, `Pairs::clear`, `Pairs::forget`
 -- and others.
-use Rattle.std.proofs.Common.{rules, ℕ, ◌≡◌, ◌≢◌, ◌+◌, ◌<◌, ◌≤◌, ◌↔◌, ◌∙◌, ◌⊎◌, inl, inr, refl, sym, ap, subst, arith, Bool, true, false, not, suc, List, [], ◌∷◌, ◌++◌, All, Any, length, get_or, set, get_or-set_same, get_or-set_other, replicate, take, drop}
-use Rattle.std.proofs.lemmas.Grind.{common_steps}
-use Rattle.std.specs.Prelude.{IsTrue, ◌==◌, if◌then◌else◌}
-use Rattle.std.specs.List.{AllPairs}
-use Rattle.std.proofs.lemmas.Bool.{cases_eq, cases_lt}
-use Rattle.std.proofs.lemmas.Bool.Decides.{nat_tests}
-use Rattle.std.proofs.lemmas.List.{length-replicate, get_or-replicate, get_or_default, get_or_past}
-use Rattle.std.proofs.lemmas.List.Elements.{All-nil, All-cons}
+use Rattle.wait_core.proofs.Common.{rules, ℕ, ◌≡◌, ◌≢◌, ◌+◌, ◌<◌, ◌≤◌, ◌↔◌, ◌∙◌, ◌⊎◌, inl, inr, refl, sym, ap, subst, arith, Bool, true, false, not, suc, List, [], ◌∷◌, ◌++◌, All, Any, length, get_or, take, drop, common_steps, IsTrue, ◌==◌, if◌then◌else◌, AllPairs, cases_eq, cases_lt, nat_tests, get_or_default, All-nil, All-cons, Mode, Span, Owner, Process, ByteModes, ProcessBlocks, Held, Wait, ProcessSet, Waits, Locks, WaitsFor, IsBlockedWait, IsOff, IsOn, pair_in, TellsPair, is_member, no_process, IsWellFormed, waits_of, has_pair, without_wait_of, AreTold}
+use Rattle.std.proofs.Common.{set, get_or-set_same, get_or-set_other, replicate}
+use Rattle.std.proofs.lemmas.List.{length-replicate, get_or-replicate, get_or_past}
 use Rattle.std.proofs.lemmas.Option.{slice_get_cases}
-use Rattle.range_core.specs.declared.Mode.{Mode}
-use Rattle.range_core.specs.declared.Span.{Span}
 use Rattle.range_core.specs.Ranges.{Covers, IsByteRange}
-use Rattle.lock_book.specs.declared.Owner.{Owner}
-use Rattle.lock_book.specs.declared.Owner.TheVariants.{Process}
-use Rattle.lock_book.specs.Conflicts.{ByteModes, ProcessBlocks}
-use Rattle.wait_core.specs.declared.Policy.TheVariants.{Held}
-use Rattle.wait_core.specs.declared.Wait.{Wait}
 use Rattle.wait_core.specs.declared.pairs.Pairs.{Pairs}
-use Rattle.wait_core.specs.declared.processes.ProcessSet.{ProcessSet}
-use Rattle.wait_core.specs.declared.waits.Waits.{Waits}
-use Rattle.wait_core.specs.Locks.{Locks}
-use Rattle.wait_core.specs.Cycles.{WaitsFor}
-use Rattle.wait_core.specs.Pairs.{IsBlockedWait, IsElsewhere, IsOff, IsOn}
-use Rattle.wait_core.specs.PairsView.{pair_in, TellsPair}
-use Rattle.wait_core.specs.Processes.{is_member, no_process}
-use Rattle.wait_core.specs.WellFormed.{IsWellFormed}
-use Rattle.wait_core.specs.WaitsView.{waits_of, has_pair, without_wait_of, AreTold, AgreeBut, AgreeButOwner}
+use Rattle.wait_core.specs.Pairs.{IsElsewhere}
+use Rattle.wait_core.specs.WaitsView.{AgreeBut, AgreeButOwner}
 use Rattle.wait_core.proofs.AnyLemmas.{Any-here, Any-there, Any-append, Any-append_left, Any-append_right, Any-alone, Any-weaker, Any-filter, Any-unfilter, split_at, split_within, split_is}
 use Rattle.wait_core.proofs.ProcessLemmas.{none_in}
 

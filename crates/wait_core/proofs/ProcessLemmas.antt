@@ -1,14 +1,11 @@
 -- Sets of processes, by their bits: for `ProcessSet::with`, `Wait::blocking_by_lock`, `Wait::blocking_by_wait` and others.
-use Rattle.std.proofs.lemmas.Grind.{common_steps}
-use Rattle.std.proofs.Common.{ℕ, ◌≡◌, ◌≢◌, ◌<◌, ◌≤◌, ◌*◌, ◌%◌, ◌^◌, ◌∙◌, ◌⊎◌, inl, inr, sym, ap, subst, refl, arith, Bool, true, false, zero, suc, w64}
-use Rattle.std.specs.Prelude.{◌==◌, ◌||◌, if◌then◌else◌, IsTrue, IsFalse, bit_and, bit_or}
+use Rattle.wait_core.proofs.Common.{common_steps, ℕ, ◌≡◌, ◌≢◌, ◌<◌, ◌≤◌, ◌∙◌, ◌⊎◌, inl, inr, sym, ap, subst, refl, arith, Bool, true, false, zero, suc, ◌==◌, ◌||◌, if◌then◌else◌, IsTrue, IsFalse, cases_eq, eqb-true, eq-eqb, nat_tests, ProcessSet, no_process, is_member}
+use Rattle.std.proofs.Common.{◌*◌, ◌%◌, ◌^◌, w64}
+use Rattle.std.specs.Prelude.{bit_and, bit_or}
 use Rattle.std.specs.Int.{bit_at, bit_not, trailing_zeros}
-use Rattle.std.proofs.lemmas.Bool.{cases_eq, eqb-true, eq-eqb}
-use Rattle.std.proofs.lemmas.Bool.Decides.{nat_tests}
 use Rattle.std.proofs.lemmas.Nat.{le_or_l}
 use Rattle.std.proofs.lemmas.Nat.Bits.{bit_at-lt, bit_at-zero, bit_at_and, bit_at_or, bit_at_not, bit_at-trailing_zeros, bit_at_set_same, bit_at_set_other, bit_at_clear_same, bit_at_clear_other}
-use Rattle.wait_core.specs.declared.processes.ProcessSet.{ProcessSet}
-use Rattle.wait_core.specs.Processes.{no_process, is_member, lacking, IsFirstBeyond, IsWithin}
+use Rattle.wait_core.specs.Processes.{lacking, IsFirstBeyond, IsWithin}
 
 -- the set of no process has none
 pub none_in : (q : ℕ) → is_member no_process q ≡ false

@@ -1,26 +1,10 @@
 -- Which process stands behind which in the queue, and what a wait more or less makes of that: for `Waits::all_waited_for`, `Waits::leave`,
 -- `Waits::push` and `Waits::waited_for`.
-use Rattle.std.proofs.lemmas.Grind.{common_steps}
-use Rattle.std.proofs.Common.{ℕ, ◌≡◌, ◌≢◌, ◌≤◌, ◌↔◌, ◌∙◌, ◌⊎◌, inl, inr, sym, ap, subst, refl, arith, Bool, true, false, not, List, [], ◌∷◌, ◌++◌, All, Any, append_assoc}
-use Rattle.std.specs.Prelude.{IsTrue, ◌==◌, ◌||◌, if◌then◌else◌}
-use Rattle.std.specs.List.{filter}
-use Rattle.std.proofs.Math.Logic.{∥∥₁_elim}
-use Rattle.std.proofs.lemmas.Bool.{cases_eq, cases_Bool, eq-eqb, or_left, or_right}
-use Rattle.std.proofs.lemmas.Bool.Decides.{nat_tests}
+use Rattle.wait_core.proofs.Common.{common_steps, ℕ, ◌≡◌, ◌≢◌, ◌≤◌, ◌↔◌, ◌∙◌, ◌⊎◌, inl, inr, sym, ap, subst, refl, arith, Bool, true, false, not, List, [], ◌∷◌, ◌++◌, All, Any, append_assoc, IsTrue, ◌==◌, ◌||◌, if◌then◌else◌, filter, ∥∥₁_elim, cases_eq, cases_Bool, eq-eqb, or_left, or_right, nat_tests, All-nil, All-head, All-tail, All-push, Process, Held, Queue, Wait, ProcessSet, Waits, Locks, IsTraditional, WaitsFor, IsConflictOf, pair_in, TellsQueue, is_member, waits_of, has_pair, AreTold}
 use Rattle.std.proofs.lemmas.List.{append-nil}
-use Rattle.std.proofs.lemmas.List.Elements.{All-nil, All-head, All-tail, All-push, filter-append}
-use Rattle.lock_book.specs.declared.Owner.TheVariants.{Process}
-use Rattle.wait_core.specs.declared.Policy.TheVariants.{Held, Queue}
-use Rattle.wait_core.specs.declared.Wait.{Wait}
+use Rattle.std.proofs.lemmas.List.Elements.{filter-append}
 use Rattle.wait_core.specs.declared.pairs.Pairs.{Pairs}
-use Rattle.wait_core.specs.declared.processes.ProcessSet.{ProcessSet}
-use Rattle.wait_core.specs.declared.waits.Waits.{Waits}
-use Rattle.wait_core.specs.Locks.{Locks}
-use Rattle.wait_core.specs.Cycles.{IsTraditional, WaitsFor}
-use Rattle.wait_core.specs.Pairs.{IsBehind, IsConflictOf, StandsBehind}
-use Rattle.wait_core.specs.PairsView.{pair_in, TellsQueue}
-use Rattle.wait_core.specs.Processes.{is_member}
-use Rattle.wait_core.specs.WaitsView.{waits_of, has_pair, AreTold}
+use Rattle.wait_core.specs.Pairs.{IsBehind, StandsBehind}
 use Rattle.wait_core.proofs.AnyLemmas.{Any-filter, Any-unfilter, Any-weaker}
 use Rattle.wait_core.proofs.DecideLemmas.{any_or_not, same_or_other, waits_conflict_or_not}
 use Rattle.wait_core.proofs.PairLemmas.{keeps_other, other_kept}

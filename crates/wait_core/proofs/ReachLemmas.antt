@@ -1,15 +1,7 @@
 -- What a wait's blockers lead to: soundness and completeness of the search for a cycle; for `Waits::all_waited_for`, `Waits::is_led_back` and
 -- `Waits::would_cycle`.
-use Rattle.std.proofs.lemmas.Grind.{common_steps}
-use Rattle.std.proofs.Common.{ℕ, ◌≡◌, ◌≤◌, ◌⊎◌, inl, inr, sym, subst, refl, arith, List, [], ◌∷◌, ◌++◌, All, length}
-use Rattle.std.specs.Prelude.{IsTrue}
-use Rattle.wait_core.specs.declared.Policy.{Policy}
-use Rattle.wait_core.specs.declared.Wait.{Wait}
-use Rattle.wait_core.specs.declared.processes.ProcessSet.{ProcessSet}
-use Rattle.wait_core.specs.Locks.{Locks}
-use Rattle.wait_core.specs.Cycles.{IsTraditional, IsBlockedByProcess, WaitsFor, IsChain, LeadsTo, ClosesCycle}
-use Rattle.wait_core.specs.Processes.{is_member}
-use Rattle.wait_core.specs.WellFormed.{IsWellFormed}
+use Rattle.wait_core.proofs.Common.{common_steps, ℕ, ◌≡◌, ◌≤◌, ◌⊎◌, inl, inr, sym, subst, refl, arith, List, [], ◌∷◌, ◌++◌, All, length, IsTrue, Policy, Wait, ProcessSet, Locks, IsTraditional, IsBlockedByProcess, WaitsFor, is_member, IsWellFormed}
+use Rattle.wait_core.specs.Cycles.{IsChain, LeadsTo, ClosesCycle}
 use Rattle.wait_core.proofs.AnyLemmas.{split_within, split_is}
 
 -- q blocks the wait, or a process that does is led to q

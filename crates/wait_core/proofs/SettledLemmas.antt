@@ -1,33 +1,17 @@
 -- Waits that are known to be blocked on all files but some, and what a change of the list or of the locks leaves of that: for
 -- `Waits::forget_changes`, `Waits::is_blocked_among`, `Waits::join` and others.
-use Rattle.std.proofs.Common.{ℕ, ◌≡◌, ◌≢◌, ◌<◌, ◌≤◌, ◌∙◌, ◌⊎◌, inl, inr, sym, ap, subst, refl, arith, Bool, true, false, not, zero, suc, Some, List, [], ◌∷◌, ◌++◌, All, Any, length, get_or, take, append_assoc, append-nil}
-use Rattle.std.proofs.lemmas.Grind.{common_steps}
-use Rattle.std.specs.Prelude.{◌==◌, ◌||◌, IsTrue, IsFalse}
-use Rattle.std.specs.List.{AllPairs, filter}
-use Rattle.std.proofs.lemmas.Bool.{cases_Bool, cases_eq}
-use Rattle.std.proofs.lemmas.Bool.Decides.{nat_tests}
+use Rattle.wait_core.proofs.Common.{ℕ, ◌≡◌, ◌≢◌, ◌<◌, ◌≤◌, ◌∙◌, ◌⊎◌, inl, inr, sym, ap, subst, refl, arith, Bool, true, false, not, zero, suc, Some, List, [], ◌∷◌, ◌++◌, All, Any, length, get_or, take, append_assoc, common_steps, ◌==◌, ◌||◌, IsTrue, IsFalse, AllPairs, filter, cases_Bool, cases_eq, nat_tests, All-nil, All-cons, All-head, All-tail, All-push, All-weaker, Span, Owner, Process, ProcessBlocks, Bytes, Policy, Held, Queue, Wait, Waits, Locks, AllBlocked, IsBlocked, WaitsConflict, IsTraditional, WaitsFor, has_file, IsBlockedWait, IsOn, AllBlockedElsewhere, IsWellFormed, waits_of, AreTold}
+use Rattle.std.proofs.Common.{append-nil}
 use Rattle.std.proofs.lemmas.Option.{same_Some}
-use Rattle.std.proofs.lemmas.List.Elements.{All-nil, All-cons, All-head, All-tail, All-push, All-weaker, filter-append}
-use Rattle.range_core.specs.declared.Span.{Span}
+use Rattle.std.proofs.lemmas.List.Elements.{filter-append}
 use Rattle.range_core.specs.Ranges.{IsByteRange}
-use Rattle.lock_book.specs.declared.Owner.{Owner}
-use Rattle.lock_book.specs.declared.Owner.TheVariants.{Process}
-use Rattle.lock_book.specs.Conflicts.{ProcessBlocks}
 use Rattle.wait_core.specs.declared.Family.{Family}
-use Rattle.wait_core.specs.declared.Family.TheVariants.{Bytes, Whole}
-use Rattle.wait_core.specs.declared.Policy.{Policy}
-use Rattle.wait_core.specs.declared.Policy.TheVariants.{Held, Queue}
-use Rattle.wait_core.specs.declared.Wait.{Wait}
+use Rattle.wait_core.specs.declared.Family.TheVariants.{Whole}
 use Rattle.wait_core.specs.declared.files.FileSet.{FileSet}
-use Rattle.wait_core.specs.declared.waits.Waits.{Waits}
-use Rattle.wait_core.specs.Locks.{Locks}
-use Rattle.wait_core.specs.Blocking.{AllBlocked, IsBlocked, IsBlockedIn, WaitsConflict}
-use Rattle.wait_core.specs.Cycles.{IsTraditional, WaitsFor}
-use Rattle.wait_core.specs.Files.{has_file}
-use Rattle.wait_core.specs.Pairs.{IsBlockedWait, IsOn}
-use Rattle.wait_core.specs.Settled.{AllBlockedElsewhere, AllBlockedWhere, AgreeElsewhere, AgreeOff}
-use Rattle.wait_core.specs.WellFormed.{IsWellFormed, can_own}
-use Rattle.wait_core.specs.WaitsView.{waits_of, wait_of, AreTold, IsTold}
+use Rattle.wait_core.specs.Blocking.{IsBlockedIn}
+use Rattle.wait_core.specs.Settled.{AllBlockedWhere, AgreeElsewhere, AgreeOff}
+use Rattle.wait_core.specs.WellFormed.{can_own}
+use Rattle.wait_core.specs.WaitsView.{wait_of, IsTold}
 use Rattle.wait_core.proofs.AnyLemmas.{Any-filter, Any-here, Any-there, Any-weaker}
 use Rattle.wait_core.proofs.PairLemmas.{blocked_wait, one_wait}
 

@@ -1,16 +1,9 @@
 -- The set of the processes that wait, as waits join the list and leave it: for `Waits::leave`, `Waits::new` and `Waits::push`.
-use Rattle.std.proofs.lemmas.Grind.{common_steps}
-use Rattle.std.proofs.Common.{ℕ, ◌≡◌, ◌≤◌, refl, arith, Bool, true, false, not, List, [], ◌∷◌, ◌++◌}
-use Rattle.std.specs.Prelude.{◌==◌, ◌||◌, ◌&&◌, if◌then◌else◌}
+use Rattle.wait_core.proofs.Common.{common_steps, ℕ, ◌≡◌, ◌≤◌, refl, arith, Bool, true, false, not, List, [], ◌∷◌, ◌++◌, ◌==◌, ◌||◌, if◌then◌else◌, cases_eq, eqb-true, nat_tests, Wait, ProcessSet, AreThoseWaiting, is_member, no_process, without_wait_of}
+use Rattle.std.specs.Prelude.{◌&&◌}
 use Rattle.std.specs.List.{list_any}
-use Rattle.std.proofs.lemmas.Bool.{cases_eq, eqb-true}
-use Rattle.std.proofs.lemmas.Bool.Decides.{nat_tests}
 use Rattle.std.proofs.lemmas.List.Folds.{list_any-append}
 use Rattle.std.proofs.lemmas.Map.Views.{any-filter_same}
-use Rattle.wait_core.specs.declared.Wait.{Wait}
-use Rattle.wait_core.specs.declared.processes.ProcessSet.{ProcessSet}
-use Rattle.wait_core.specs.Processes.{AreThoseWaiting, is_member, no_process}
-use Rattle.wait_core.specs.WaitsView.{without_wait_of}
 use Rattle.wait_core.proofs.ProcessLemmas.{none_in}
 
 -- at first nobody waits

@@ -1,42 +1,14 @@
 -- What a request comes to whoever is in which section, and was told an error last: for `sections_change_nothing_else`.
-use Rattle.std.proofs.Common.{◌≡◌, ◌∙◌, ◌∷◌, ◌++◌, [], ◌==◌, if◌then◌else◌, ◌||◌, ℕ, List, Bool, true, false, Option, Some, None, Result, Ok, Err, MatchBool, MatchOption, MatchResult, inl, inr, ap, refl, subst}
-use Rattle.range_core.specs.Facts.{MatchFact}
-use Rattle.range_core.specs.Resolving.{resolution}
-use Rattle.range_core.specs.declared.Mode.{Mode}
-use Rattle.range_core.specs.declared.Mode.TheVariants.{Read, Write}
-use Rattle.lock_book.specs.declared.Owner.{Owner}
-use Rattle.lock_book.specs.declared.Owner.TheVariants.{Process, Description}
-use Rattle.lock_book.specs.Changes.{flock_mode_in}
-use Rattle.fd_table.specs.declared.FdFault.{FdFault}
-use Rattle.fd_table.specs.declared.FdFault.TheVariants.{BadFd, TooMany, Invalid, Taken, Memory}
-use Rattle.fd_table.specs.declared.tables.Look.{Look}
-use Rattle.fd_table.specs.Descriptors.{look_at}
+use Rattle.lock_manager.proofs.Common.{◌≡◌, ◌∙◌, ◌∷◌, ◌++◌, [], ◌==◌, if◌then◌else◌, ◌||◌, ℕ, List, Bool, true, false, Option, Some, None, Result, Ok, Err, MatchBool, MatchOption, MatchResult, inl, inr, ap, refl, subst}
+use Rattle.lock_manager.proofs.Common.{MatchFact, resolution, Mode, Read, Write, Owner, Process, Description, flock_mode_in, FdFault, BadFd, TooMany, Invalid, Taken, Look, look_at, Bytes, Whole, Policy, Wait, Rules, Lock, LkCmd, GetLk, SetLk, SetLkW, OGetLk, OSetLk, OSetLkW, FlockOp, Note, Answer, ProcState, Unborn, Live, Waiting, Ended, Request, OpenFile, Dup, DupTo, CloseFd, Seek, Resize, Lk, Flock, Fork, Exit, Signal, Kill, Enter, Leave, Bail, State, with_flock_mode, with_lock, Settles, granted, Outcome, IsRefusal, is_bad_argument, is_get, permits, wanted_lock, wanted_mode, CommandComesTo, LockComesTo, FlockModeComesTo, FlockOpComesTo, FlockTestComesTo, wanted_flock, EndComesTo, KillOtherComesTo, SignalComesTo, marked, ComesTo}
+use Rattle.fd_table.specs.declared.FdFault.TheVariants.{Memory}
 use Rattle.wait_core.specs.declared.Family.{Family}
-use Rattle.wait_core.specs.declared.Family.TheVariants.{Bytes, Whole}
-use Rattle.wait_core.specs.declared.Policy.{Policy}
-use Rattle.wait_core.specs.declared.Wait.{Wait}
-use Rattle.lock_manager.specs.declared.request.Rules.{Rules}
-use Rattle.lock_manager.specs.declared.request.Lock.{Lock}
-use Rattle.lock_manager.specs.declared.request.LkCmd.{LkCmd}
-use Rattle.lock_manager.specs.declared.request.LkCmd.TheVariants.{GetLk, SetLk, SetLkW, OGetLk, OSetLk, OSetLkW}
-use Rattle.lock_manager.specs.declared.request.FlockOp.{FlockOp}
 use Rattle.lock_manager.specs.declared.request.FlockOp.TheVariants.{Sh, Ex, Un}
-use Rattle.lock_manager.specs.declared.request.Note.{Note}
-use Rattle.lock_manager.specs.declared.request.Note.TheVariants.{Answer}
 use Rattle.lock_manager.specs.declared.request.Reply.TheVariants as replies
-use Rattle.lock_manager.specs.declared.request.ProcState.{ProcState}
-use Rattle.lock_manager.specs.declared.request.ProcState.TheVariants.{Unborn, Live, Waiting, Ended}
-use Rattle.lock_manager.specs.declared.request.Request.{Request}
-use Rattle.lock_manager.specs.declared.request.Request.TheVariants.{OpenFile, Dup, DupTo, CloseFd, Seek, Resize, Lk, Flock, Fork, Exit, Signal, Kill, Enter, Leave, Bail}
-use Rattle.lock_manager.specs.State.{State, Visits, with_flock_mode, with_lock, with_lock_of}
-use Rattle.lock_manager.specs.Settling.{Settles, granted}
-use Rattle.lock_manager.specs.Outcomes.{Outcome, IsRefusal, answered_then}
-use Rattle.lock_manager.specs.LockWords.{is_bad_argument, is_get, permits, wanted_lock, wanted_mode}
-use Rattle.lock_manager.specs.LockCommands.{CommandComesTo, LockComesTo}
-use Rattle.lock_manager.specs.FlockCalls.{FlockModeComesTo, FlockOpComesTo, FlockTestComesTo, is_same_mode, wanted_flock}
-use Rattle.lock_manager.specs.ProcessCalls.{EndComesTo, KillOtherComesTo, SignalComesTo}
-use Rattle.lock_manager.specs.Sections.{marked, refused_behind, visits_behind, visits_left}
-use Rattle.lock_manager.specs.Step.{ComesTo}
+use Rattle.lock_manager.specs.State.{Visits, with_lock_of}
+use Rattle.lock_manager.specs.Outcomes.{answered_then}
+use Rattle.lock_manager.specs.FlockCalls.{is_same_mode}
+use Rattle.lock_manager.specs.Sections.{refused_behind, visits_behind, visits_left}
 use Rattle.lock_manager.specs.SectionsApart.{SectionsChangeNothingElse, is_of_sections, with_marks}
 
 -- ---- choices, case by case

@@ -1,30 +1,17 @@
 -- The first of a list of which something holds: for `Manager::first_in_the_way`, clause `first`.
-use Rattle.std.proofs.Common.{rules, ℕ, suc, ◌≡◌, ◌≢◌, ◌+◌, ◌-◌, ◌<◌, ◌≤◌, inl, inr, true, List, ◌∷◌, ◌++◌, length, get_or, take, drop, refl, sym, ap, subst, ◌∙◌, All, Any, arith, Option, MatchOption, Some, None, slice_get, drop-cons, take-append-drop, get_or-take, length-take, get_or-append-add, length-append}
+use Rattle.lock_manager.proofs.Common.{rules, ℕ, suc, ◌≡◌, ◌≢◌, ◌+◌, ◌-◌, ◌<◌, ◌≤◌, inl, inr, true, List, ◌∷◌, ◌++◌, length, get_or, take, refl, sym, ap, subst, ◌∙◌, All, arith, Option, MatchOption, Some, None, slice_get, length-append, cases_lt, common_steps}
+use Rattle.lock_manager.proofs.Common.{Mode, HeldConflicts, Owner, Description, whole_file, Held, Book, byte_modes_of, flock_modes_of, ByteModes, FlockModes, ByteConflict, Bytes, Whole, Wait, locks_of, byte_modes_at, flock_modes_at, IsBlockedIn, IsBlockedByLock, IsBlocked, IsQueued, Machine, State, locks_held, Shows, machine_rules, machine_locks, machine_waits}
+use Rattle.std.proofs.Common.{drop, Any, drop-cons, take-append-drop, get_or-take, length-take, get_or-append-add}
 use Rattle.std.proofs.Math.Seq.{get_or-append_seam, get_or-append_right}
-use Rattle.std.proofs.lemmas.Bool.{cases_lt}
 use Rattle.std.proofs.lemmas.List.{get_or_append_left, get_or_default}
-use Rattle.range_core.specs.declared.Mode.{Mode}
-use Rattle.range_core.specs.Ranges.{Conflict, HeldConflicts}
-use Rattle.lock_book.specs.declared.Owner.{Owner}
-use Rattle.lock_book.specs.declared.Owner.TheVariants.{Description}
+use Rattle.range_core.specs.Ranges.{Conflict}
 use Rattle.lock_book.specs.Owners.{IsBefore}
-use Rattle.lock_book.specs.Changes.{whole_file}
-use Rattle.std.proofs.lemmas.Grind.{common_steps}
-use Rattle.lock_book.specs.declared.Held.{Held}
-use Rattle.lock_book.specs.declared.book.Book.{Book}
-use Rattle.lock_book.specs.Books.{byte_modes_of, flock_modes_of}
-use Rattle.lock_book.specs.Conflicts.{ByteModes, FlockModes, ByteConflict, FlockConflict}
+use Rattle.lock_book.specs.Conflicts.{FlockConflict}
 use Rattle.lock_book.specs.Reports.{IsFileReport, IsFlockLine}
-use Rattle.wait_core.specs.declared.Family.TheVariants.{Bytes, Whole}
 use Rattle.wait_core.specs.declared.Policy.TheVariants.{Queue}
-use Rattle.wait_core.specs.declared.Wait.{Wait}
-use Rattle.wait_core.specs.Locks.{locks_of, byte_modes_at, flock_modes_at}
-use Rattle.wait_core.specs.Blocking.{IsBlockedIn, IsBlockedByLock, IsBlocked, IsQueued, WaitsConflict}
-use Rattle.lock_manager.specs.declared.machine.Machine.{Machine}
+use Rattle.wait_core.specs.Blocking.{WaitsConflict}
 use Rattle.lock_manager.specs.declared.request.InTheWay.{InTheWay}
 use Rattle.lock_manager.specs.declared.request.InTheWay.TheVariants as obstacles
-use Rattle.lock_manager.specs.State.{State, locks_held}
-use Rattle.lock_manager.specs.MachineView.{Shows, machine_rules, machine_locks, machine_waits}
 use Rattle.lock_manager.specs.Asking.{IsFirstOf, IsFirstByteLock, IsFirstFlock, IsFlockAgainst, IsFirstLockOf, IsFirstInTheWay}
 use Rattle.lock_manager.proofs.calls.SetLemmas.{at_state}
 

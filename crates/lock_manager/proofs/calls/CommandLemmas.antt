@@ -1,36 +1,11 @@
 -- From what a lock command finds to what it comes to: for `Machine::get_reply`, `Machine::lock_command`, `Machine::range_command` and others.
-use Rattle.std.proofs.Common.{arith, rules, ℕ, ◌≡◌, sym, subst, true, false, Some, List, [], ◌∷◌, Result, Ok, Err, IfOk, slice_get}
-use Rattle.std.proofs.lemmas.Grind.{common_steps}
-use Rattle.std.proofs.lemmas.Option.{same_Some}
-use Rattle.range_core.specs.declared.Memory.{Memory}
-use Rattle.range_core.specs.declared.Mode.{Mode}
+use Rattle.lock_manager.proofs.Common.{arith, rules, ℕ, ◌≡◌, sym, subst, true, false, Some, List, [], ◌∷◌, Result, Ok, Err, IfOk, slice_get, common_steps, same_Some}
+use Rattle.lock_manager.proofs.Common.{Memory, Mode, Span, resolution, Owner, Book, byte_modes_of, ByteModes, IsFirstBlocker, Look, Tables, Descriptors, look_at, StandFor, locks_of, byte_modes_at, Machine, Rules, Lock, LkCmd, Lk, Reply, Note, Answer, MayLock, State, Outcome, is_get, is_bad_argument, wanted_mode, wanted_lock, GetComesTo, Shows, Tells, machine_rules, machine_locks}
 use Rattle.range_core.specs.declared.Kind.{Kind}
-use Rattle.range_core.specs.declared.Span.{Span}
-use Rattle.range_core.specs.Resolving.{resolution}
-use Rattle.lock_book.specs.declared.Owner.{Owner}
 use Rattle.lock_book.specs.declared.Blocker.{Blocker}
-use Rattle.lock_book.specs.declared.book.Book.{Book}
-use Rattle.lock_book.specs.Books.{byte_modes_of}
-use Rattle.lock_book.specs.Conflicts.{ByteModes, IsFirstBlocker}
-use Rattle.fd_table.specs.declared.tables.Look.{Look}
-use Rattle.fd_table.specs.declared.tables.Tables.{Tables}
-use Rattle.fd_table.specs.Descriptors.{Descriptors, look_at}
-use Rattle.fd_table.specs.TablesView.{StandFor}
-use Rattle.wait_core.specs.Locks.{locks_of, byte_modes_at}
-use Rattle.lock_manager.specs.declared.machine.Machine.{Machine}
-use Rattle.lock_manager.specs.declared.request.Rules.{Rules}
-use Rattle.lock_manager.specs.declared.request.Lock.{Lock}
-use Rattle.lock_manager.specs.declared.request.LkCmd.{LkCmd}
-use Rattle.lock_manager.specs.declared.request.Request.TheVariants.{Lk}
-use Rattle.lock_manager.specs.declared.request.Reply.{Reply}
-use Rattle.lock_manager.specs.declared.request.Note.{Note}
-use Rattle.lock_manager.specs.declared.request.Note.TheVariants.{Answer}
-use Rattle.lock_manager.specs.DescriptionLocks.{MayLock, MayWait}
-use Rattle.lock_manager.specs.State.{State}
-use Rattle.lock_manager.specs.Outcomes.{Outcome}
-use Rattle.lock_manager.specs.LockWords.{is_get, is_bad_argument, wanted_mode, held_reply, lock_owner, wanted_lock}
-use Rattle.lock_manager.specs.LockCommands.{GetTells, GetComesTo, ModeComesTo, RangeComesTo}
-use Rattle.lock_manager.specs.MachineView.{Shows, Tells, machine_rules, machine_locks}
+use Rattle.lock_manager.specs.DescriptionLocks.{MayWait}
+use Rattle.lock_manager.specs.LockWords.{held_reply, lock_owner}
+use Rattle.lock_manager.specs.LockCommands.{GetTells, ModeComesTo, RangeComesTo}
 use Rattle.lock_manager.proofs.calls.ReportLemmas.{same_locks}
 
 -- what the book of the file tells

@@ -1,29 +1,10 @@
 -- From a call on descriptors to what the request comes to: for `Machine::close_fd`, `Machine::dup`, `Machine::dup_to` and others.
-use Rattle.std.proofs.Common.{arith, ℕ, ◌≡◌, subst, Ok, Err, Result, IfOk, List, MatchResult}
-use Rattle.std.proofs.lemmas.Grind.{common_steps}
-use Rattle.std.proofs.Math.Logic.{∥∥₁_elim}
-use Rattle.range_core.specs.declared.Memory.{Memory}
-use Rattle.fd_table.specs.declared.FdFault.{FdFault}
+use Rattle.lock_manager.proofs.Common.{arith, ℕ, ◌≡◌, subst, Ok, Err, Result, IfOk, List, MatchResult, common_steps, ∥∥₁_elim}
+use Rattle.lock_manager.proofs.Common.{Memory, FdFault, Tables, Descriptors, StandFor, limits_of, Access, OpenGives, DupGives, ForkGives, HadMemory, Wait, Locks, waits_of, Machine, Reply, Request, OpenFile, Dup, Fork, Live, State, with_process, Outcome, answered, IsRefusal, ComesTo, AreOwned, Shows, machine_rules, machine_processes}
 use Rattle.fd_table.specs.declared.FdFault.TheVariants as faults
-use Rattle.fd_table.specs.declared.tables.Tables.{Tables}
-use Rattle.fd_table.specs.Descriptors.{Descriptors}
-use Rattle.fd_table.specs.TablesView.{StandFor, limits_of, processes_of as processes_in}
-use Rattle.fd_table.specs.declared.Access.{Access}
-use Rattle.fd_table.specs.Calls.{OpenGives, DupGives, ForkGives, HadMemory}
-use Rattle.wait_core.specs.declared.Wait.{Wait}
-use Rattle.wait_core.specs.Locks.{Locks}
-use Rattle.wait_core.specs.WaitsView.{waits_of}
-use Rattle.lock_manager.specs.declared.machine.Machine.{Machine}
-use Rattle.lock_manager.specs.declared.request.Reply.{Reply}
+use Rattle.fd_table.specs.TablesView.{processes_of as processes_in}
 use Rattle.lock_manager.specs.declared.request.Reply.TheVariants as replies
-use Rattle.lock_manager.specs.declared.request.Request.{Request}
-use Rattle.lock_manager.specs.declared.request.Request.TheVariants.{OpenFile, Dup, Fork}
-use Rattle.lock_manager.specs.declared.request.ProcState.TheVariants.{Live}
-use Rattle.lock_manager.specs.State.{State, with_process}
-use Rattle.lock_manager.specs.Outcomes.{Outcome, answered, IsRefusal}
-use Rattle.lock_manager.specs.Step.{ComesTo}
-use Rattle.lock_manager.specs.DescriptionLocks.{AreOwned}
-use Rattle.lock_manager.specs.MachineView.{Shows, Answers, machine_rules, machine_processes}
+use Rattle.lock_manager.specs.MachineView.{Answers}
 use Rattle.lock_manager.proofs.kept.NextStateLemmas.{with_tables}
 
 -- what a call that gives an X may answer, and what it leaves

@@ -1,32 +1,15 @@
 -- What flock comes to: at once, refused, or later; for `Machine::convert_flock`, `Machine::flock_mode`, `Machine::grant_flock` and
 -- `Machine::test_flock`.
-use Rattle.std.proofs.Common.{rules, arith, ℕ, ◌≡◌, refl, sym, ◌∙◌, ap, subst, Bool, true, false, Option, Some, None, List, [], ◌∷◌, ◌++◌, inl, inr, ◌⊎◌, IsTrue, eq-eqb, IsFalse, ◌↔◌, slice_set, ◌==◌, not}
-use Rattle.std.proofs.lemmas.List.Folds.{find_at, list_any_at}
-use Rattle.std.proofs.lemmas.Grind.{common_steps}
-use Rattle.std.proofs.lemmas.Option.{slice_get_within, get_or_from_slice_get}
-use Rattle.range_core.specs.declared.Mode.{Mode}
-use Rattle.lock_book.specs.Changes.{flock_mode_in}
-use Rattle.std.specs.List.{list_any}
-use Rattle.lock_book.specs.declared.Owner.TheVariants.{Description}
-use Rattle.fd_table.specs.declared.tables.Look.{Look}
-use Rattle.wait_core.specs.declared.Family.TheVariants.{Whole}
-use Rattle.wait_core.specs.declared.Wait.{Wait}
-use Rattle.wait_core.specs.Locks.{Locks}
-use Rattle.wait_core.specs.Blocking.{IsBlockedByLock, IsQueued}
-use Rattle.wait_core.specs.WaitsView.{wait_of}
-use Rattle.lock_manager.specs.declared.machine.Machine.{Machine}
+use Rattle.lock_manager.proofs.Common.{rules, arith, ℕ, ◌≡◌, refl, sym, ◌∙◌, ap, subst, Bool, true, false, Option, Some, None, List, [], ◌∷◌, ◌++◌, inl, inr, ◌⊎◌, eq-eqb, IsFalse, slice_set, ◌==◌, not, list_any_at, common_steps, slice_get_within, list_any}
+use Rattle.lock_manager.proofs.Common.{Mode, flock_mode_in, Description, Look, Whole, Wait, Locks, IsBlockedByLock, IsQueued, wait_of, Machine, Note, Answer, Live, Waiting, State, locks_held, with_flock_mode, with_lock, with_process, wanted_flock, FlockTestComesTo, FlockModeComesTo, without_wait, Settles, granted, Rules, AreApart, SameMachine, Shows, machine_rules, machine_locks, machine_waits}
+use Rattle.std.proofs.Common.{IsTrue, ◌↔◌}
+use Rattle.std.proofs.lemmas.List.Folds.{find_at}
+use Rattle.std.proofs.lemmas.Option.{get_or_from_slice_get}
 use Rattle.lock_manager.specs.declared.request.Errno.TheVariants.{EAGAIN}
 use Rattle.lock_manager.specs.declared.request.Reply.TheVariants as replies
-use Rattle.lock_manager.specs.declared.request.Note.{Note}
-use Rattle.lock_manager.specs.declared.request.Note.TheVariants.{Answer, Waits}
-use Rattle.lock_manager.specs.declared.request.ProcState.TheVariants.{Live, Waiting}
-use Rattle.lock_manager.specs.State.{State, locks_held, with_flock_mode, with_lock, with_process}
-use Rattle.lock_manager.specs.FlockCalls.{wanted_flock, FlockTestComesTo, FlockModeComesTo, ConversionComesTo}
-use Rattle.lock_manager.specs.ProcessCalls.{without_wait}
-use Rattle.lock_manager.specs.Settling.{Settles, granted}
-use Rattle.lock_manager.specs.declared.request.Rules.{Rules}
-use Rattle.lock_manager.specs.WaitsKept.{AreApart, is_flock_wait}
-use Rattle.lock_manager.specs.MachineView.{SameMachine, Shows, machine_rules, machine_locks, machine_waits}
+use Rattle.lock_manager.specs.declared.request.Note.TheVariants.{Waits}
+use Rattle.lock_manager.specs.FlockCalls.{ConversionComesTo}
+use Rattle.lock_manager.specs.WaitsKept.{is_flock_wait}
 use Rattle.lock_manager.proofs.calls.SetLemmas.{at_state, is_blocked, not_blocked}
 use Rattle.lock_manager.proofs.kept.GrantLemmas.{without_middle}
 

@@ -1,29 +1,14 @@
 -- From the machine to the manager: for `Manager::new` and `Manager::take`.
-use Rattle.std.proofs.Common.{arith, ℕ, ◌≡◌, List, [], ◌∷◌, ◌++◌, sym, ap, ◌∙◌, subst}
-use Rattle.std.proofs.lemmas.Grind.{common_steps}
-use Rattle.lock_manager.specs.Settling.{Settles, granted}
-use Rattle.lock_manager.specs.declared.machine.Machine.{Machine}
+use Rattle.lock_manager.proofs.Common.{arith, ℕ, ◌≡◌, List, [], ◌∷◌, ◌++◌, sym, ap, ◌∙◌, subst, common_steps, Settles, granted, Machine, Sections, Rules, Request, Note, ProcState, Live, Policy, Wait, AllBlocked, State, opening_state, state_numbered, Outcome, marked, seat_in, visit_in, refused_in, Seat, no_seat, Step, Shows, machine_rules, machine_state, machine_locks, machine_waits, state_at}
 use Rattle.lock_manager.specs.declared.manager.Manager.{Manager}
-use Rattle.lock_manager.specs.declared.sections.Sections.{Sections}
-use Rattle.lock_manager.specs.declared.request.Rules.{Rules}
-use Rattle.lock_manager.specs.declared.request.Request.{Request}
-use Rattle.lock_manager.specs.declared.request.Note.{Note}
-use Rattle.lock_manager.specs.declared.request.ProcState.{ProcState}
-use Rattle.lock_manager.specs.declared.request.ProcState.TheVariants.{Live}
-use Rattle.wait_core.specs.declared.Policy.{Policy}
-use Rattle.wait_core.specs.declared.Wait.{Wait}
-use Rattle.wait_core.specs.Blocking.{AllBlocked}
-use Rattle.lock_manager.specs.State.{State, Visits, opening_state, state_numbered}
-use Rattle.lock_manager.specs.Outcomes.{Outcome}
-use Rattle.lock_manager.specs.Sections.{marked, visits_left, visits_behind, refused_behind}
-use Rattle.lock_manager.specs.SectionsView.{AreOf, seat_in, visit_in, refused_in}
-use Rattle.lock_manager.specs.declared.seat.Seat.{Seat}
-use Rattle.lock_manager.specs.SeatView.{visit_of, no_seat}
+use Rattle.lock_manager.specs.State.{Visits}
+use Rattle.lock_manager.specs.Sections.{visits_left, visits_behind, refused_behind}
+use Rattle.lock_manager.specs.SectionsView.{AreOf}
+use Rattle.lock_manager.specs.SeatView.{visit_of}
 use Rattle.lock_manager.proofs.SectionLemmas.{no_visit}
-use Rattle.lock_manager.specs.Step.{Step}
 use Rattle.lock_manager.specs.Safety.{IsSafe}
-use Rattle.lock_manager.specs.MachineView.{Shows, TellsBy, machine_rules, machine_state, machine_locks, machine_waits}
-use Rattle.lock_manager.specs.ManagerView.{StandsFor, rules_of, processes_of, state_at, locks_in_books, waits_of, visit_at, refused_at}
+use Rattle.lock_manager.specs.MachineView.{TellsBy}
+use Rattle.lock_manager.specs.ManagerView.{StandsFor, rules_of, processes_of, locks_in_books, waits_of, visit_at, refused_at}
 
 -- the manager stands for what its machine shows and its sections say
 pub stands_for : (manager : Manager) (S : State) → Shows manager.machine S → AreOf manager.sections S → StandsFor manager S

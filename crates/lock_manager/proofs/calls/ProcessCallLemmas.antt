@@ -1,38 +1,14 @@
 -- What fork, exit, signal and kill do to the waits and to the states that a machine shows: for `Machine::grant_bytes`, `Machine::grant_flock`,
 -- `Machine::interrupt` and `Machine::kill`.
-use Rattle.std.proofs.lemmas.Grind.{common_steps}
-use Rattle.std.proofs.Common.{ℕ, ◌≡◌, ◌≢◌, ◌≤◌, ◌+◌, refl, sym, ◌∙◌, ap, subst, List, [], ◌∷◌, length, Some, Bool, true, All, get_or, inl, inr, arith, ◌==◌, if◌then◌else◌, not}
+use Rattle.lock_manager.proofs.Common.{common_steps, ℕ, ◌≡◌, ◌≢◌, ◌≤◌, ◌+◌, refl, sym, ◌∙◌, ap, subst, List, [], ◌∷◌, length, Some, Bool, true, All, get_or, inl, inr, arith, ◌==◌, if◌then◌else◌, not, same_Some, slice_get_within, ∥∥₁_map, cases_Bool, eqb_tells, All-head, All-tail, list_any}
+use Rattle.lock_manager.proofs.Common.{Book, Tables, ever_alive, Wait, Waits, IsFreeOfCycles, Locks, locks_of, AreBlockedElsewhere, waits_of, wait_of, without_wait_of, AreTold, Machine, ProcState, Live, Ended, State, state_numbered, with_process, StandsSo, EndComesTo, KillOtherComesTo, without_wait, with_released, Outcome, Note, Kill, MayWaitAs, AreOwned, Shows, Tells, machine_state, machine_locks, machine_waits, AreKept, AreApart, IsSuspended, AreStanding, HaveRoom}
 use Rattle.std.proofs.lemmas.List.Sums.{length-filter, count_by-le-length}
 use Rattle.std.proofs.lemmas.List.Folds.{find_at}
-use Rattle.std.proofs.lemmas.Option.{same_Some, slice_get_within, get_or_from_slice_get}
-use Rattle.std.proofs.Math.Logic.{∥∥₁_map}
-use Rattle.std.proofs.lemmas.Bool.{cases_Bool}
-use Rattle.std.proofs.lemmas.Bool.Decides.{eqb_tells}
-use Rattle.std.proofs.lemmas.List.Elements.{All-filter, filter_passes, All-head, All-tail}
+use Rattle.std.proofs.lemmas.Option.{get_or_from_slice_get}
+use Rattle.std.proofs.lemmas.List.Elements.{All-filter, filter_passes}
 use Rattle.std.proofs.lemmas.List.Kept.{AllPairs-filter}
-use Rattle.std.specs.List.{filter, list_any}
-use Rattle.lock_book.specs.declared.book.Book.{Book}
-use Rattle.fd_table.specs.declared.tables.Tables.{Tables}
-use Rattle.fd_table.specs.TablesView.{ever_alive}
-use Rattle.wait_core.specs.declared.Wait.{Wait}
-use Rattle.wait_core.specs.declared.waits.Waits.{Waits}
-use Rattle.wait_core.specs.Cycles.{IsFreeOfCycles}
+use Rattle.std.specs.List.{filter}
 use Rattle.wait_core.specs.FreeOfCycles.{FreeWhenOneLeaves}
-use Rattle.wait_core.specs.Locks.{Locks, locks_of}
-use Rattle.wait_core.specs.Settled.{AreBlockedElsewhere}
-use Rattle.wait_core.specs.WaitsView.{waits_of, wait_of, without_wait_of, AreTold}
-use Rattle.lock_manager.specs.declared.machine.Machine.{Machine}
-use Rattle.lock_manager.specs.declared.request.ProcState.{ProcState}
-use Rattle.lock_manager.specs.declared.request.ProcState.TheVariants.{Live, Ended}
-use Rattle.lock_manager.specs.State.{State, state_numbered, with_process, StandsSo}
-use Rattle.lock_manager.specs.ProcessCalls.{EndComesTo, KillOtherComesTo, without_wait}
-use Rattle.lock_manager.specs.DescriptorCalls.{with_released}
-use Rattle.lock_manager.specs.Outcomes.{Outcome}
-use Rattle.lock_manager.specs.declared.request.Note.{Note}
-use Rattle.lock_manager.specs.declared.request.Request.TheVariants.{Kill}
-use Rattle.lock_manager.specs.DescriptionLocks.{MayWaitAs, AreOwned}
-use Rattle.lock_manager.specs.MachineView.{Shows, Tells, machine_state, machine_locks, machine_waits}
-use Rattle.lock_manager.specs.WaitsKept.{AreKept, AreApart, IsSuspended, AreStanding, HaveRoom}
 use Rattle.lock_manager.proofs.kept.ProcessLemmas.{waiting_still, waited_before}
 
 -- no wait of a process is left without it

@@ -1,13 +1,6 @@
 -- What is told where a call gives a reply: for `Machine::serve`.
-use Rattle.std.proofs.Common.{ℕ, ◌≡◌, ◌≤◌, ◌+◌, arith, length, List, [], Result, Ok, Err, IfOk, OnOk, OnErr}
-use Rattle.std.proofs.lemmas.Grind.{common_steps}
-use Rattle.range_core.specs.declared.Memory.{Memory}
-use Rattle.lock_manager.specs.declared.machine.Machine.{Machine}
-use Rattle.lock_manager.specs.declared.sections.Sections.{Sections}
-use Rattle.lock_manager.specs.declared.request.Note.{Note}
-use Rattle.lock_manager.specs.declared.request.Reply.{Reply}
-use Rattle.lock_manager.specs.declared.request.Request.{Request}
-use Rattle.lock_manager.specs.MachineView.{SameMachine, Answers, TellsBy, machine_waits}
+use Rattle.lock_manager.proofs.Common.{ℕ, ◌≡◌, ◌≤◌, ◌+◌, arith, length, List, [], Result, Ok, Err, IfOk, OnOk, OnErr, common_steps, Memory, Machine, Sections, Note, Reply, Request, SameMachine, machine_waits}
+use Rattle.lock_manager.specs.MachineView.{Answers, TellsBy}
 use Rattle.lock_manager.specs.Replies.{IsReplied}
 
 -- a reply is told by its note

@@ -1,15 +1,7 @@
 -- The report of all files, file by file: for `Machine::held`.
-use Rattle.std.proofs.Common.{ℕ, zero, suc, ◌≡◌, ◌+◌, refl, sym, ◌∙◌, ap, subst, List, [], ◌++◌, append_assoc, append-nil, add-one, add-zero, arith, Some, slice_get}
-use Rattle.lock_book.specs.declared.Held.{Held}
-use Rattle.lock_book.specs.declared.book.Book.{Book}
-use Rattle.lock_book.specs.Books.{byte_modes_of, flock_modes_of}
-use Rattle.lock_book.specs.Conflicts.{ByteModes, FlockModes}
+use Rattle.lock_manager.proofs.Common.{ℕ, zero, suc, ◌≡◌, ◌+◌, refl, sym, ◌∙◌, ap, subst, List, [], ◌++◌, append_assoc, append-nil, arith, Some, slice_get, Held, Book, byte_modes_of, flock_modes_of, ByteModes, FlockModes, mode_in, flock_mode_in, Locks, locks_of, byte_modes_at, flock_modes_at, Machine, State, locks_held, Shows, machine_locks}
+use Rattle.std.proofs.Common.{add-one, add-zero}
 use Rattle.lock_book.specs.Reports.{IsFileReport, AreFileReports, IsHeldReport}
-use Rattle.lock_book.specs.Changes.{mode_in, flock_mode_in}
-use Rattle.wait_core.specs.Locks.{Locks, locks_of, byte_modes_at, flock_modes_at}
-use Rattle.lock_manager.specs.declared.machine.Machine.{Machine}
-use Rattle.lock_manager.specs.State.{State, locks_held}
-use Rattle.lock_manager.specs.MachineView.{Shows, machine_locks}
 
 -- the report of one more file
 reports_push : (first n : ℕ) (bytes : ℕ → ByteModes) (flocks : ℕ → FlockModes) (xs ys : List Held) (file : ℕ)

@@ -1,26 +1,14 @@
 -- What a set command comes to: at once, refused, or later; for `Machine::set_command` and `Machine::test_flock`.
-use Rattle.std.proofs.Common.{arith, ◌≡◌, refl, sym, ap, subst, true, false, Some, List, [], ◌∷◌, ◌++◌, inl, inr, ◌⊎◌, IsTrue, IsFalse}
-use Rattle.std.proofs.lemmas.Grind.{common_steps}
-use Rattle.wait_core.specs.declared.Family.TheVariants.{Bytes}
-use Rattle.wait_core.specs.declared.Policy.{Policy}
-use Rattle.wait_core.specs.declared.Wait.{Wait}
-use Rattle.wait_core.specs.Locks.{Locks}
-use Rattle.wait_core.specs.Blocking.{IsBlockedByLock, IsBlocked, IsQueued}
-use Rattle.wait_core.specs.Cycles.{ClosesCycle}
-use Rattle.lock_manager.specs.declared.machine.Machine.{Machine}
-use Rattle.lock_manager.specs.declared.request.Rules.{Rules}
-use Rattle.lock_manager.specs.declared.request.LkCmd.{LkCmd}
-use Rattle.lock_manager.specs.declared.request.LkCmd.TheVariants.{GetLk, SetLk, SetLkW, OGetLk, OSetLk, OSetLkW}
+use Rattle.lock_manager.proofs.Common.{arith, ◌≡◌, refl, sym, ap, subst, true, false, Some, List, [], ◌∷◌, ◌++◌, inl, inr, ◌⊎◌, IsFalse, common_steps}
+use Rattle.lock_manager.proofs.Common.{Bytes, Policy, Wait, Locks, IsBlockedByLock, IsBlocked, IsQueued, ClosesCycle, Machine, Rules, LkCmd, GetLk, SetLk, SetLkW, OGetLk, OSetLk, OSetLkW, Note, Answer, Waiting, State, locks_held, with_byte_mode, with_lock, with_process, Outcome, is_get, CommandComesTo, Shows, machine_rules, machine_locks, machine_waits}
+use Rattle.std.proofs.Common.{IsTrue}
 use Rattle.lock_manager.specs.declared.request.Errno.TheVariants.{EDEADLK}
 use Rattle.lock_manager.specs.declared.request.Reply.TheVariants as replies
-use Rattle.lock_manager.specs.declared.request.Note.{Note}
-use Rattle.lock_manager.specs.declared.request.Note.TheVariants.{Answer, Waits}
-use Rattle.lock_manager.specs.declared.request.ProcState.TheVariants.{Waiting}
-use Rattle.lock_manager.specs.State.{State, locks_held, with_byte_mode, with_lock_of, with_lock, with_process}
-use Rattle.lock_manager.specs.Outcomes.{Outcome, refused, waits_then}
-use Rattle.lock_manager.specs.LockWords.{is_ofd, is_get, may_wait}
-use Rattle.lock_manager.specs.LockCommands.{IsLocked, CommandComesTo}
-use Rattle.lock_manager.specs.MachineView.{Shows, machine_rules, machine_locks, machine_waits}
+use Rattle.lock_manager.specs.declared.request.Note.TheVariants.{Waits}
+use Rattle.lock_manager.specs.State.{with_lock_of}
+use Rattle.lock_manager.specs.Outcomes.{refused, waits_then}
+use Rattle.lock_manager.specs.LockWords.{is_ofd, may_wait}
+use Rattle.lock_manager.specs.LockCommands.{IsLocked}
 use Rattle.lock_manager.proofs.calls.ReportLemmas.{same_locks}
 
 -- in each state that old shows the set command comes to this note alone, and new shows the state that it leaves

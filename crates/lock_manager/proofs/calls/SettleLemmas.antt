@@ -1,24 +1,8 @@
 -- The grants of a settling, one after another: for `Machine::rest` and `Machine::settle`.
-use Rattle.std.proofs.Common.{◌≡◌, refl, sym, ◌∙◌, subst, List, [], ◌∷◌, ◌++◌, append-nil, append_assoc, arith}
-use Rattle.std.proofs.lemmas.Grind.{common_steps}
-use Rattle.std.proofs.Math.Logic.{∥∥₁_map}
-use Rattle.wait_core.specs.declared.Policy.{Policy}
-use Rattle.wait_core.specs.declared.Wait.{Wait}
-use Rattle.wait_core.specs.declared.waits.Waits.{Waits}
-use Rattle.wait_core.specs.Cycles.{IsFreeOfCycles}
-use Rattle.wait_core.specs.Locks.{Locks, locks_of}
-use Rattle.wait_core.specs.Settled.{AreBlockedElsewhere}
-use Rattle.wait_core.specs.WaitsView.{waits_of, AreTold}
-use Rattle.lock_manager.specs.DescriptionLocks.{AreOwned}
-use Rattle.lock_manager.specs.WaitsKept.{AreKept, AreApart, HaveRoom}
-use Rattle.wait_core.specs.Blocking.{AllBlocked, IsBlockedByLock, IsNextBetween, IsNextReady}
-use Rattle.lock_manager.specs.declared.machine.Machine.{Machine}
-use Rattle.lock_manager.specs.declared.request.Note.{Note}
-use Rattle.lock_manager.specs.declared.request.Note.TheVariants.{Answer}
+use Rattle.lock_manager.proofs.Common.{◌≡◌, refl, sym, ◌∙◌, subst, List, [], ◌∷◌, ◌++◌, append-nil, append_assoc, arith, common_steps, ∥∥₁_map}
+use Rattle.lock_manager.proofs.Common.{Policy, Wait, Waits, IsFreeOfCycles, Locks, locks_of, AreBlockedElsewhere, waits_of, AreTold, AreOwned, AreKept, AreApart, HaveRoom, AllBlocked, IsBlockedByLock, IsNextBetween, Machine, Note, Answer, State, locks_held, Settles, granted, Shows, machine_rules, machine_locks, machine_waits}
+use Rattle.wait_core.specs.Blocking.{IsNextReady}
 use Rattle.lock_manager.specs.declared.request.Reply.TheVariants as replies
-use Rattle.lock_manager.specs.State.{State, locks_held}
-use Rattle.lock_manager.specs.Settling.{Settles, granted}
-use Rattle.lock_manager.specs.MachineView.{Shows, machine_rules, machine_locks, machine_waits}
 use Rattle.lock_manager.proofs.calls.ReportLemmas.{same_locks}
 
 -- from what old shows these grants lead to what new shows, whatever is granted after them

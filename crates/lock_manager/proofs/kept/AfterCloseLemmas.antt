@@ -1,30 +1,8 @@
 -- What holds of the machine after it has released what a call closed: for `Machine::close_fd`, `Machine::dup_to`, `Machine::end` and `Machine::fork`.
-use Rattle.std.proofs.Common.{arith, ℕ, ◌≡◌, ◌≢◌, All, ◌==◌, refl, sym, ◌∙◌, ap, subst, List, Some, None, Option, Bool, true, false, ◌&&◌, ◌||◌, if◌then◌else◌}
-use Rattle.std.proofs.lemmas.Grind.{common_steps}
-use Rattle.std.proofs.Math.Logic.{∥∥₁_map}
-use Rattle.range_core.specs.declared.Mode.{Mode}
-use Rattle.lock_book.specs.declared.Owner.TheVariants.{Description}
-use Rattle.fd_table.specs.declared.tables.Tables.{Tables}
-use Rattle.fd_table.specs.Releases.{Released}
-use Rattle.fd_table.specs.Descriptors.{Descriptors, IsOpen}
-use Rattle.fd_table.specs.Calls.{CloseGives, DupToGives, EndGives}
-use Rattle.fd_table.specs.TablesView.{StandFor, limits_of, ever_alive}
-use Rattle.wait_core.specs.declared.Wait.{Wait}
-use Rattle.wait_core.specs.Locks.{Locks, locks_of}
-use Rattle.wait_core.specs.WaitsView.{waits_of, without_wait_of}
-use Rattle.lock_manager.specs.declared.machine.Machine.{Machine}
+use Rattle.lock_manager.proofs.Common.{arith, ℕ, ◌≡◌, ◌≢◌, All, ◌==◌, refl, sym, ◌∙◌, ap, subst, List, Some, None, Option, Bool, true, false, ◌&&◌, ◌||◌, if◌then◌else◌, common_steps, ∥∥₁_map}
+use Rattle.lock_manager.proofs.Common.{Mode, Description, Tables, Released, Descriptors, CloseGives, DupToGives, EndGives, StandFor, limits_of, ever_alive, Wait, Locks, locks_of, waits_of, without_wait_of, Machine, DupTo, CloseFd, ProcState, Live, Ended, State, with_process, state_numbered, StandsSo, AreCompatible, Note, with_released, EndComesTo, without_wait, IsOpenOn, AreOwned, AreWithinFiles, is_one_of, is_released, ReleasesLocks, Shows, machine_rules, machine_state, machine_locks, machine_waits, AreStanding}
+use Rattle.fd_table.specs.Descriptors.{IsOpen}
 use Rattle.lock_manager.specs.declared.request.Reply.TheVariants as replies
-use Rattle.lock_manager.specs.declared.request.Request.TheVariants.{DupTo, CloseFd}
-use Rattle.lock_manager.specs.declared.request.ProcState.{ProcState}
-use Rattle.lock_manager.specs.declared.request.ProcState.TheVariants.{Live, Ended}
-use Rattle.lock_manager.specs.State.{State, with_process, state_numbered, StandsSo}
-use Rattle.lock_manager.specs.Safety.{AreCompatible}
-use Rattle.lock_manager.specs.declared.request.Note.{Note}
-use Rattle.lock_manager.specs.DescriptorCalls.{with_released}
-use Rattle.lock_manager.specs.ProcessCalls.{EndComesTo, without_wait}
-use Rattle.lock_manager.specs.DescriptionLocks.{IsOpenOn, AreOwned, AreWithinFiles}
-use Rattle.lock_manager.specs.LockReleases.{is_one_of, is_released, ReleasesLocks}
-use Rattle.lock_manager.specs.MachineView.{Shows, machine_rules, machine_state, machine_locks, machine_waits}
 use Rattle.lock_manager.proofs.kept.AfterReleaseLemmas.{bytes_after, flocks_after}
 use Rattle.lock_manager.proofs.calls.DescriptorCallLemmas.{Giving, IsServedBy}
 use Rattle.lock_manager.proofs.kept.ClosingLemmas.{Closing, open_after, file_released, not_closed, end_closes}
@@ -32,7 +10,6 @@ use Rattle.lock_manager.proofs.kept.OwnedLemmas.{owned_in}
 use Rattle.lock_manager.proofs.kept.SafetyLemmas.{none_conflict_fewer}
 use Rattle.lock_manager.proofs.kept.ProcessLemmas.{alive_with, alive_still, lived_before, waiting_still, waited_before}
 use Rattle.lock_manager.proofs.kept.WaitLemmas.{suspended_after}
-use Rattle.lock_manager.specs.WaitsKept.{AreStanding}
 use Rattle.lock_manager.proofs.calls.ProcessCallLemmas.{without_absent}
 use Rattle.lock_manager.proofs.kept.WaitCloseLemmas.{holders_closed}
 

@@ -1,26 +1,12 @@
 -- The locks that a release leaves are those of the definition's state: for `Machine::close_fd`, `Machine::dup_to`, `Machine::end` and
 -- `Machine::fork`.
-use Rattle.std.proofs.lemmas.Grind.{common_steps}
-use Rattle.std.proofs.Common.{ℕ, ◌≡◌, ◌<◌, ◌==◌, refl, sym, ◌∙◌, ap, subst, List, [], ◌∷◌, ◌++◌, Some, None, Option, Bool, true, false, get_or, arith, Contains, eq-eqb, ◌&&◌, ◌||◌, if◌then◌else◌, option_map}
+use Rattle.lock_manager.proofs.Common.{common_steps, ℕ, ◌≡◌, ◌<◌, ◌==◌, refl, sym, ◌∙◌, ap, subst, List, [], ◌∷◌, ◌++◌, Some, None, Option, Bool, true, false, get_or, arith, Contains, eq-eqb, ◌&&◌, ◌||◌, if◌then◌else◌, option_map, list_any, eqb-true, cases_lt, and_parts, same_Some, Any-from_list_any, list_any_at}
+use Rattle.lock_manager.proofs.Common.{OFFMAX, Mode, is_covered, Owner, Process, Description, is_same_owner, Change, FlockChange, whole_file, mode_from, mode_in, flock_mode_from, flock_mode_in, Descriptors, OpenFileDescription, description_numbered, Released, Locks, State, with_released, IsOpenOn, AreWithinFiles, is_one_of, is_released, ReleasesLocks}
 use Rattle.lock_manager.proofs.kept.BookLemmas.{mode_from-append, flock_mode_from-append}
-use Rattle.std.specs.List.{list_any, cons_option}
-use Rattle.std.proofs.lemmas.Bool.{eqb-true, cases_lt, le-leb, and_parts, and_right}
-use Rattle.std.proofs.lemmas.Option.{same_Some}
-use Rattle.std.proofs.lemmas.List.Folds.{Any-from_list_any, list_any_at}
-use Rattle.range_core.specs.declared.TheConstants.{OFFMAX}
-use Rattle.range_core.specs.declared.Mode.{Mode}
-use Rattle.range_core.specs.Changes.{is_covered}
-use Rattle.lock_book.specs.declared.Owner.{Owner}
-use Rattle.lock_book.specs.declared.Owner.TheVariants.{Process, Description}
-use Rattle.lock_book.specs.Owners.{is_same_owner}
-use Rattle.lock_book.specs.Changes.{Change, FlockChange, whole_file, mode_from, mode_in, flock_mode_from, flock_mode_in}
-use Rattle.fd_table.specs.Descriptors.{Descriptors, OpenFileDescription, description_numbered}
-use Rattle.fd_table.specs.Releases.{Released}
-use Rattle.wait_core.specs.Locks.{Locks}
-use Rattle.lock_manager.specs.State.{State}
-use Rattle.lock_manager.specs.DescriptorCalls.{process_releases, description_releases, flock_releases, with_released}
-use Rattle.lock_manager.specs.DescriptionLocks.{IsOpenOn, AreOfOpenDescriptions, AreWithinFiles}
-use Rattle.lock_manager.specs.LockReleases.{is_one_of, is_released, ReleasesLocks}
+use Rattle.std.specs.List.{cons_option}
+use Rattle.std.proofs.lemmas.Bool.{le-leb, and_right}
+use Rattle.lock_manager.specs.DescriptorCalls.{process_releases, description_releases, flock_releases}
+use Rattle.lock_manager.specs.DescriptionLocks.{AreOfOpenDescriptions}
 use Rattle.lock_manager.proofs.kept.ClosingLemmas.{Closing, one_of, is_member, file_released}
 
 and_false : (a b : Bool) → (a && false && b) ≡ false

@@ -1,20 +1,9 @@
 -- What one book's change does to the locks of all files: for `Machine::change`, `Machine::change_flock`, `Machine::close_fd` and others.
-use Rattle.std.proofs.Common.{arith, ℕ, ◌≡◌, ◌≢◌, ◌<◌, refl, sym, ◌∙◌, ap, List, [], ◌∷◌, ◌++◌, length, Some, None, Option, true, get_or, Result, Ok, Err, OnOk, OnErr, All, slice_get, slice_set, ◌==◌, ◌&&◌, if◌then◌else◌, get_or-set_same, get_or-set_other, length-set}
-use Rattle.lock_book.specs.Changes.{Change, FlockChange, sets_byte, mode_from, flock_mode_from}
-use Rattle.std.proofs.lemmas.Grind.{common_steps}
-use Rattle.lock_manager.specs.Opening.{HoldsNothing}
-use Rattle.range_core.specs.declared.Memory.{Memory}
-use Rattle.range_core.specs.declared.Mode.{Mode}
-use Rattle.range_core.specs.declared.Span.{Span}
-use Rattle.range_core.specs.Changes.{is_covered}
-use Rattle.lock_book.specs.declared.Owner.{Owner}
-use Rattle.lock_book.specs.declared.book.Book.{Book}
-use Rattle.lock_book.specs.Owners.{is_same_owner}
-use Rattle.lock_book.specs.Books.{byte_modes_of, flock_modes_of, SetsOwnerMode, SameBook}
-use Rattle.wait_core.specs.Locks.{Locks, locks_of}
-use Rattle.std.proofs.lemmas.Bool.Decides.{eqb_tells}
-use Rattle.std.proofs.lemmas.Bool.{eqb-true}
-use Rattle.std.proofs.lemmas.Option.{slice_get-get_or, slice_get_read, slice_get_cases}
+use Rattle.lock_manager.proofs.Common.{arith, ℕ, ◌≡◌, ◌≢◌, ◌<◌, refl, sym, ◌∙◌, ap, List, [], ◌∷◌, ◌++◌, length, Some, None, Option, true, get_or, Result, Ok, Err, OnOk, OnErr, All, slice_get, slice_set, ◌==◌, ◌&&◌, if◌then◌else◌, common_steps, eqb_tells, eqb-true, slice_get_cases}
+use Rattle.lock_manager.proofs.Common.{Change, FlockChange, mode_from, flock_mode_from, HoldsNothing, Memory, Mode, Span, is_covered, Owner, Book, is_same_owner, byte_modes_of, flock_modes_of, SetsOwnerMode, SameBook, Locks, locks_of}
+use Rattle.std.proofs.Common.{get_or-set_same, get_or-set_other, length-set}
+use Rattle.lock_book.specs.Changes.{sets_byte}
+use Rattle.std.proofs.lemmas.Option.{slice_get-get_or, slice_get_read}
 
 -- the item that was replaced
 pub slice_get-set_same : {X : Type 0} (xs : List X) (i : ℕ) (x : X) → i < length xs → slice_get (slice_set xs i x) i ≡ Some x

@@ -1,38 +1,12 @@
 -- What holds of the machine after a change of one flock lock: for `Machine::begin_flock`, `Machine::change_flock`, `Machine::place_flock` and
 -- `Machine::test_flock`.
-use Rattle.std.proofs.lemmas.Grind.{common_steps}
-use Rattle.std.proofs.Common.{ℕ, ◌≡◌, ◌≢◌, ◌<◌, ◌≤◌, ◌⊎◌, inl, inr, refl, sym, ◌∙◌, ap, subst, List, [], ◌∷◌, ◌++◌, length, Some, None, Option, Bool, true, false, arith, Result, Ok, Err, OnOk, OnErr, slice_get, slice_set, ◌==◌, ◌&&◌, if◌then◌else◌}
-use Rattle.std.proofs.Math.Logic.{∥∥₁_map, ∥∥₁_elim}
-use Rattle.std.proofs.lemmas.Bool.{eqb-true, or_right, and_parts}
-use Rattle.std.proofs.lemmas.Bool.Decides.{eqb_tells}
-use Rattle.range_core.specs.declared.Memory.{Memory}
-use Rattle.range_core.specs.declared.Mode.{Mode}
-use Rattle.range_core.specs.declared.Mode.TheVariants.{Read, Write}
-use Rattle.range_core.specs.Ranges.{HeldConflicts}
-use Rattle.lock_book.specs.declared.Owner.{Owner}
-use Rattle.lock_book.specs.declared.Owner.TheVariants.{Process, Description}
-use Rattle.lock_book.specs.declared.book.Book.{Book}
-use Rattle.lock_book.specs.Books.{flock_modes_of, room_in, has_flock_place, SetsFlock, ReservesFlock, SameBook}
-use Rattle.lock_book.specs.Changes.{FlockChange, flock_mode_from}
-use Rattle.lock_book.specs.Conflicts.{FlockModes, FlockConflict}
-use Rattle.fd_table.specs.declared.tables.Tables.{Tables}
-use Rattle.wait_core.specs.declared.Wait.{Wait}
-use Rattle.wait_core.specs.declared.waits.Waits.{Waits}
+use Rattle.lock_manager.proofs.Common.{common_steps, ℕ, ◌≡◌, ◌≢◌, ◌<◌, ◌≤◌, ◌⊎◌, inl, inr, refl, sym, ◌∙◌, ap, subst, List, [], ◌∷◌, ◌++◌, length, Some, None, Option, Bool, true, false, arith, Result, Ok, Err, OnOk, OnErr, slice_get, slice_set, ◌==◌, ◌&&◌, if◌then◌else◌, ∥∥₁_map, ∥∥₁_elim, eqb-true, and_parts, eqb_tells}
+use Rattle.lock_manager.proofs.Common.{Memory, Mode, Read, Write, HeldConflicts, Owner, Process, Description, Book, flock_modes_of, room_in, SameBook, FlockChange, flock_mode_from, FlockModes, Tables, Wait, Waits, Look, wanted_flock, Locks, locks_of, flock_modes_at, IsFreeOfCycles, IsBlockedIn, AreBlockedElsewhere, waits_of, AreTold, FreeWhenDescriptionLocksChange, Machine, State, with_flock_mode, AreCompatible, IsOpenOn, AreOwned, MayLock, Shows, machine_locks, machine_state, machine_waits, AreKept, AreApart, HaveRoom, has_place_at, SameWaits, Bytes, Whole}
+use Rattle.std.proofs.lemmas.Bool.{or_right}
+use Rattle.lock_book.specs.Books.{has_flock_place, SetsFlock, ReservesFlock}
+use Rattle.lock_book.specs.Conflicts.{FlockConflict}
 use Rattle.wait_core.specs.WellFormed.{IsWellFormed}
-use Rattle.fd_table.specs.declared.tables.Look.{Look}
-use Rattle.lock_manager.specs.FlockCalls.{wanted_flock}
-use Rattle.wait_core.specs.Locks.{Locks, locks_of, flock_modes_at}
-use Rattle.wait_core.specs.Cycles.{IsFreeOfCycles}
-use Rattle.wait_core.specs.Blocking.{IsBlockedIn}
-use Rattle.wait_core.specs.Settled.{AreBlockedElsewhere}
-use Rattle.wait_core.specs.WaitsView.{waits_of, AreTold}
-use Rattle.wait_core.specs.FreeOfCycles.{FreeWhenDescriptionLocksChange}
-use Rattle.lock_manager.specs.declared.machine.Machine.{Machine}
-use Rattle.lock_manager.specs.State.{State, with_flock_mode}
-use Rattle.lock_manager.specs.Safety.{AreCompatible}
-use Rattle.lock_manager.specs.DescriptionLocks.{IsOpenOn, AreOwned, MayLock}
-use Rattle.lock_manager.specs.MachineView.{Shows, machine_locks, machine_state, machine_waits}
-use Rattle.lock_manager.specs.WaitsKept.{AreKept, AreApart, HaveRoom, has_place_at, FreesNobody, SameWaits, StayBlocked}
+use Rattle.lock_manager.specs.WaitsKept.{FreesNobody, StayBlocked}
 use Rattle.lock_manager.proofs.kept.BookLemmas.{slice_get-set, slice_get-set_same, entry_is, same_bytes, flock_mode_from-append}
 use Rattle.lock_manager.proofs.kept.SafetyLemmas.{none_conflict_after, none_conflict_fewer, same_owner}
 use Rattle.lock_manager.proofs.kept.OwnedLemmas.{none_but_set}
@@ -40,7 +14,6 @@ use Rattle.lock_manager.proofs.kept.WaitLemmas.{told_by_bytes, room_with, same_r
 use Rattle.lock_manager.proofs.kept.SuspendLemmas.{counted, kept_by_book}
 use Rattle.std.proofs.lemmas.List.Folds.{list_any-append}
 use Rattle.wait_core.specs.declared.Family.{Family}
-use Rattle.wait_core.specs.declared.Family.TheVariants.{Bytes, Whole}
 
 -- all byte locks stay
 flock_set_bytes : (books : List Book) (file : ℕ) (old new : Book) (description : ℕ) (mode : Option Mode)

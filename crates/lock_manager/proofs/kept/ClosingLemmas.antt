@@ -1,14 +1,7 @@
 -- What a call that closes descriptors leaves open, and what it releases: for `Machine::close_fd`, `Machine::dup_to` and `Machine::end`.
-use Rattle.std.proofs.lemmas.Grind.{common_steps}
-use Rattle.std.proofs.Common.{ℕ, ◌≡◌, ◌==◌, refl, sym, ◌∙◌, ap, List, Bool, true, false, Ok, Contains, get_or, eq-eqb, arith, eqb-true, ◌&&◌}
-use Rattle.std.proofs.lemmas.Bool.{and_parts}
-use Rattle.std.proofs.lemmas.List.Folds.{Any-from_list_any, list_any_at}
-use Rattle.fd_table.specs.Releases.{Released, ClosesFile, AreReleased, nothing}
-use Rattle.fd_table.specs.declared.Limits.{Limits}
-use Rattle.fd_table.specs.Descriptors.{Descriptors, IsOpen, SameDescriptors, without_descriptors}
-use Rattle.fd_table.specs.Calls.{CloseGives, DupToGives, EndGives}
-use Rattle.lock_manager.specs.DescriptionLocks.{IsOpenOn}
-use Rattle.lock_manager.specs.LockReleases.{is_one_of}
+use Rattle.lock_manager.proofs.Common.{common_steps, ℕ, ◌≡◌, ◌==◌, refl, sym, ◌∙◌, ap, List, Bool, true, false, Ok, Contains, get_or, eq-eqb, arith, ◌&&◌, and_parts, Any-from_list_any, list_any_at, Released, ClosesFile, AreReleased, nothing, Limits, Descriptors, SameDescriptors, without_descriptors, CloseGives, DupToGives, EndGives, IsOpenOn, is_one_of}
+use Rattle.std.proofs.Common.{eqb-true}
+use Rattle.fd_table.specs.Descriptors.{IsOpen}
 
 -- a member of the list is found
 pub one_of : (numbers : List ℕ) (number : ℕ) → Contains numbers number → is_one_of numbers number ≡ true

@@ -1,28 +1,8 @@
 -- A wait that is granted leaves the list, and its owner has the lock: for `Machine::grant_bytes` and `Machine::grant_flock`.
-use Rattle.std.proofs.lemmas.Grind.{common_steps}
-use Rattle.std.proofs.Common.{ℕ, suc, ◌≡◌, ◌<◌, ◌≤◌, ◌+◌, refl, sym, ◌∙◌, ap, subst, List, [], ◌∷◌, ◌++◌, length, Some, Bool, true, inl, inr, arith, eqb-true, eq-eqb, slice_get, slice_set, filter, length-append}
-use Rattle.std.proofs.lemmas.Bool.{cases_Bool}
+use Rattle.lock_manager.proofs.Common.{common_steps, ℕ, suc, ◌≡◌, ◌<◌, ◌≤◌, ◌+◌, refl, sym, ◌∙◌, ap, subst, List, [], ◌∷◌, ◌++◌, length, Some, Bool, true, inl, inr, arith, eq-eqb, slice_get, slice_set, length-append, cases_Bool, ∥∥₁_elim, ∥∥₁_map, eqb_tells, same_Some}
+use Rattle.lock_manager.proofs.Common.{Owner, Process, Description, Book, SetsOwnerMode, room_in, Tables, Bytes, Wait, Locks, wait_of, without_wait_of, Machine, Live, without_wait, granted, State, with_byte_mode, with_process, Shows, MayWaitAs, AreOwned, MayLock, AreApart, HaveRoom, is_byte_wait, room_at}
+use Rattle.std.proofs.Common.{eqb-true, filter}
 use Rattle.std.proofs.Math.Seq.{get_or-append_seam}
-use Rattle.std.proofs.Math.Logic.{∥∥₁_elim, ∥∥₁_map}
-use Rattle.std.proofs.lemmas.Bool.Decides.{eqb_tells}
-use Rattle.std.proofs.lemmas.Option.{same_Some}
-use Rattle.lock_book.specs.declared.Owner.{Owner}
-use Rattle.lock_book.specs.declared.Owner.TheVariants.{Process, Description}
-use Rattle.lock_book.specs.declared.book.Book.{Book}
-use Rattle.lock_book.specs.Books.{SetsOwnerMode, room_in}
-use Rattle.fd_table.specs.declared.tables.Tables.{Tables}
-use Rattle.wait_core.specs.declared.Family.TheVariants.{Bytes}
-use Rattle.wait_core.specs.declared.Wait.{Wait}
-use Rattle.wait_core.specs.Locks.{Locks}
-use Rattle.wait_core.specs.WaitsView.{wait_of, without_wait_of}
-use Rattle.lock_manager.specs.declared.machine.Machine.{Machine}
-use Rattle.lock_manager.specs.declared.request.ProcState.TheVariants.{Live}
-use Rattle.lock_manager.specs.ProcessCalls.{without_wait}
-use Rattle.lock_manager.specs.Settling.{granted}
-use Rattle.lock_manager.specs.State.{State, with_byte_mode, with_process}
-use Rattle.lock_manager.specs.MachineView.{Shows}
-use Rattle.lock_manager.specs.DescriptionLocks.{MayWaitAs, AreOwned, MayLock}
-use Rattle.lock_manager.specs.WaitsKept.{AreApart, HaveRoom, is_byte_wait, room_at}
 use Rattle.lock_manager.proofs.kept.BookLemmas.{slice_get-set, entry_is}
 use Rattle.lock_manager.proofs.kept.OwnedLemmas.{stay_open_in_all}
 use Rattle.lock_manager.proofs.calls.ProcessCallLemmas.{found_holds, counted_without, found_without, without_absent}

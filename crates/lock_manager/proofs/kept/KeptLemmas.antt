@@ -1,40 +1,11 @@
 -- What holds of the machine at every moment, after a change of one book and after a release: for `Machine::change`, `Machine::close_fd`,
 -- `Machine::dup_to` and others.
-use Rattle.std.proofs.lemmas.Grind.{common_steps}
-use Rattle.std.proofs.Common.{ℕ, ◌≡◌, ◌≢◌, ◌<◌, ◌≤◌, refl, sym, arith, ◌∙◌, subst, List, length, Some, Option, All, Result, OnOk, OnErr, ◌==◌, ◌&&◌, if◌then◌else◌, slice_get, slice_set}
-use Rattle.std.proofs.Math.Logic.{∥∥₁_map}
-use Rattle.std.proofs.lemmas.Bool.{cases_Bool, cases_eq, eqb-true}
-use Rattle.std.proofs.lemmas.Bool.Decides.{nat_tests}
-use Rattle.range_core.specs.declared.Memory.{Memory}
-use Rattle.range_core.specs.declared.Mode.{Mode}
-use Rattle.range_core.specs.declared.Span.{Span}
-use Rattle.range_core.specs.declared.TheConstants.{OFFMAX}
-use Rattle.range_core.specs.Ranges.{Covers, IsByteRange}
-use Rattle.lock_book.specs.declared.Owner.{Owner}
-use Rattle.lock_book.specs.declared.Owner.TheVariants.{Process}
-use Rattle.lock_book.specs.declared.book.Book.{Book}
-use Rattle.lock_book.specs.Owners.{is_same_owner}
-use Rattle.lock_book.specs.Changes.{whole_file}
-use Rattle.lock_book.specs.Books.{SetsOwnerMode, SameBook, room_in}
-use Rattle.range_core.specs.Changes.{is_covered}
-use Rattle.lock_book.specs.Conflicts.{ByteConflict}
-use Rattle.fd_table.specs.declared.tables.Tables.{Tables}
-use Rattle.fd_table.specs.Releases.{Released}
-use Rattle.fd_table.specs.Descriptors.{Descriptors}
-use Rattle.fd_table.specs.TablesView.{StandFor}
-use Rattle.wait_core.specs.declared.Policy.{Policy}
-use Rattle.wait_core.specs.declared.waits.Waits.{Waits}
-use Rattle.wait_core.specs.Locks.{Locks, locks_of}
-use Rattle.wait_core.specs.Cycles.{IsFreeOfCycles}
-use Rattle.wait_core.specs.WaitsView.{waits_of, AreTold, AgreeButOwner}
-use Rattle.wait_core.specs.Settled.{AreBlockedElsewhere, AgreeOff}
-use Rattle.wait_core.specs.FreeOfCycles.{FreeWhenLocksChange, FreeWhenDescriptionLocksChange}
-use Rattle.lock_manager.specs.declared.machine.Machine.{Machine}
-use Rattle.lock_manager.specs.declared.request.ProcState.TheVariants.{Live}
-use Rattle.lock_manager.specs.State.{state_numbered}
-use Rattle.lock_manager.specs.DescriptionLocks.{AreOwned, MayLock}
-use Rattle.lock_manager.specs.LockReleases.{ReleasesInBook, ReleasesLocks, ReleasesRoom}
-use Rattle.lock_manager.specs.WaitsKept.{AreKept, AreApart, HaveRoom, SameWaits, StayKnown}
+use Rattle.lock_manager.proofs.Common.{common_steps, ℕ, ◌≡◌, ◌≢◌, ◌<◌, ◌≤◌, refl, sym, arith, ◌∙◌, subst, List, length, Some, Option, All, Result, OnOk, OnErr, ◌==◌, ◌&&◌, if◌then◌else◌, slice_get, slice_set, ∥∥₁_map, cases_Bool, eqb-true, nat_tests}
+use Rattle.lock_manager.proofs.Common.{Memory, Mode, Span, OFFMAX, Covers, Owner, Process, Book, is_same_owner, whole_file, SetsOwnerMode, SameBook, room_in, is_covered, ByteConflict, Tables, Released, Descriptors, StandFor, Policy, Waits, Locks, locks_of, IsFreeOfCycles, waits_of, AreTold, AreBlockedElsewhere, FreeWhenLocksChange, FreeWhenDescriptionLocksChange, Machine, Live, state_numbered, AreOwned, MayLock, ReleasesInBook, ReleasesLocks, ReleasesRoom, AreKept, AreApart, HaveRoom, SameWaits, StayKnown}
+use Rattle.std.proofs.lemmas.Bool.{cases_eq}
+use Rattle.range_core.specs.Ranges.{IsByteRange}
+use Rattle.wait_core.specs.WaitsView.{AgreeButOwner}
+use Rattle.wait_core.specs.Settled.{AgreeOff}
 use Rattle.lock_manager.proofs.kept.BookLemmas.{after_set, slice_get-set_same, slice_get-set_other}
 use Rattle.lock_manager.proofs.kept.SafetyLemmas.{compatible_after, hit, same_owner}
 use Rattle.lock_manager.proofs.kept.OwnedLemmas.{owned_set, within_files_set}

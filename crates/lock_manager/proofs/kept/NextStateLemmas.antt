@@ -1,22 +1,6 @@
 -- From one machine and a state that it stands for to the next: for `Machine::change`, `Machine::dup`, `Machine::fork` and others.
-use Rattle.std.proofs.Common.{arith, ℕ, ◌≡◌, ◌<◌, refl, sym, ◌∙◌, ap, subst, Option, Some, length, List, [], All, true, slice_get, slice_set, ◌==◌, if◌then◌else◌}
-use Rattle.std.proofs.lemmas.Grind.{common_steps}
-use Rattle.range_core.specs.declared.Mode.{Mode}
-use Rattle.range_core.specs.declared.Span.{Span}
-use Rattle.lock_book.specs.declared.Owner.{Owner}
-use Rattle.lock_book.specs.declared.book.Book.{Book}
-use Rattle.lock_book.specs.Books.{SetsOwnerMode}
-use Rattle.fd_table.specs.Descriptors.{Descriptors, opening_descriptors}
-use Rattle.fd_table.specs.TablesView.{StandFor, ever_alive}
-use Rattle.fd_table.specs.declared.tables.Tables.{Tables}
-use Rattle.wait_core.specs.Locks.{Locks, locks_of}
-use Rattle.wait_core.specs.WaitsView.{waits_of}
-use Rattle.lock_manager.specs.declared.machine.Machine.{Machine}
-use Rattle.lock_manager.specs.State.{State, with_byte_mode, opening_state, state_numbered, with_process, StandsSo}
-use Rattle.lock_manager.specs.Opening.{HoldsNothing}
-use Rattle.lock_manager.specs.declared.request.ProcState.{ProcState}
-use Rattle.lock_manager.specs.declared.request.ProcState.TheVariants.{Live, Unborn, Waiting}
-use Rattle.lock_manager.specs.MachineView.{Shows, SameMachine, machine_rules, machine_processes, machine_state, machine_locks, machine_waits}
+use Rattle.lock_manager.proofs.Common.{arith, ℕ, ◌≡◌, ◌<◌, refl, sym, ◌∙◌, ap, subst, Option, Some, length, List, [], All, true, slice_get, slice_set, ◌==◌, if◌then◌else◌, common_steps}
+use Rattle.lock_manager.proofs.Common.{Mode, Span, Owner, Book, SetsOwnerMode, Descriptors, opening_descriptors, StandFor, ever_alive, Tables, Locks, locks_of, waits_of, Machine, State, with_byte_mode, opening_state, state_numbered, with_process, StandsSo, HoldsNothing, ProcState, Live, Unborn, Waiting, Shows, SameMachine, machine_rules, machine_processes, machine_state, machine_locks, machine_waits}
 use Rattle.lock_manager.proofs.kept.BookLemmas.{unlocked_bytes, unlocked_flocks, mode_from-push, set_bytes, set_flocks, locks_stay}
 use Rattle.lock_manager.proofs.kept.WaitLemmas.{KeepsLocks}
 

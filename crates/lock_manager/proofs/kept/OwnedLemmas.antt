@@ -1,27 +1,11 @@
 -- Only descriptions that some descriptor refers to have locks, each on its own file, and only processes wait for them that have them open: for
 -- `Machine::new`.
-use Rattle.std.proofs.lemmas.Grind.{common_steps}
-use Rattle.std.proofs.Common.{ℕ, ◌≡◌, ◌<◌, refl, sym, ◌∙◌, subst, List, [], length, Some, None, Option, Bool, true, Result, OnOk, OnErr, All, arith, ◌==◌, ◌&&◌, if◌then◌else◌, slice_get, slice_set, option_map}
-use Rattle.std.proofs.Math.Logic.{∥∥₁_map, ∥∥₁_elim}
-use Rattle.std.proofs.lemmas.Option.{same_Some}
+use Rattle.lock_manager.proofs.Common.{common_steps, ℕ, ◌≡◌, ◌<◌, refl, sym, ◌∙◌, subst, List, [], length, Some, None, Option, Bool, true, Result, OnOk, OnErr, All, arith, ◌==◌, ◌&&◌, if◌then◌else◌, slice_get, slice_set, option_map, ∥∥₁_map, ∥∥₁_elim, same_Some}
+use Rattle.lock_manager.proofs.Common.{Memory, Mode, Span, is_covered, Owner, Description, Book, is_same_owner, SetsOwnerMode, SameBook, Tables, Descriptors, description_numbered, opening_descriptors, StandFor, Wait, Locks, locks_of, IsOpenOn, MayWaitAs, AreOwned, AreWithinFiles, MayLock, HoldsNothing}
 use Rattle.std.proofs.lemmas.List.Elements.{All-nil}
-use Rattle.range_core.specs.declared.Memory.{Memory}
-use Rattle.range_core.specs.declared.Mode.{Mode}
-use Rattle.range_core.specs.declared.Span.{Span}
 use Rattle.range_core.specs.Ranges.{IsByteRange}
-use Rattle.range_core.specs.Changes.{is_covered}
-use Rattle.lock_book.specs.declared.Owner.{Owner}
-use Rattle.lock_book.specs.declared.Owner.TheVariants.{Description}
-use Rattle.lock_book.specs.declared.book.Book.{Book}
-use Rattle.lock_book.specs.Owners.{is_same_owner}
-use Rattle.lock_book.specs.Books.{SetsOwnerMode, SameBook}
-use Rattle.fd_table.specs.declared.tables.Tables.{Tables}
-use Rattle.fd_table.specs.Descriptors.{Descriptors, description_numbered, opening_descriptors}
-use Rattle.fd_table.specs.TablesView.{Numbered, IsSeen, StandFor, view_of}
-use Rattle.wait_core.specs.declared.Wait.{Wait}
-use Rattle.wait_core.specs.Locks.{Locks, locks_of}
-use Rattle.lock_manager.specs.DescriptionLocks.{IsOpenOn, HasOpenOn, MayWaitAs, AreOfHolders, AreOfOpenDescriptions, AreOwned, AreWithinFiles, MayLock}
-use Rattle.lock_manager.specs.Opening.{HoldsNothing}
+use Rattle.fd_table.specs.TablesView.{Numbered, IsSeen, view_of}
+use Rattle.lock_manager.specs.DescriptionLocks.{HasOpenOn, AreOfHolders, AreOfOpenDescriptions}
 use Rattle.lock_manager.proofs.kept.BookLemmas.{after_set, unlocked_bytes, unlocked_flocks}
 use Rattle.lock_manager.proofs.kept.SafetyLemmas.{hit}
 

@@ -1,12 +1,6 @@
 -- Where the processes stand after one of them has changed: for `Machine::end`, `Machine::interrupt`, `Machine::join` and others.
-use Rattle.std.proofs.lemmas.Grind.{common_steps}
-use Rattle.std.proofs.Common.{ℕ, ◌≡◌, ◌≢◌, ◌<◌, ◌≤◌, ◌+◌, List, length, Bool, true, arith, slice_set, ◌==◌, ◌||◌, if◌then◌else◌}
-use Rattle.std.proofs.lemmas.Bool.{cases_lt}
+use Rattle.lock_manager.proofs.Common.{common_steps, ℕ, ◌≡◌, ◌≢◌, ◌<◌, ◌≤◌, ◌+◌, List, length, Bool, true, arith, slice_set, ◌==◌, ◌||◌, if◌then◌else◌, cases_lt, eqb_tells, ProcState, Unborn, Live, Waiting, state_numbered, StandsSo}
 use Rattle.std.proofs.lemmas.Option.{slice_get_past}
-use Rattle.std.proofs.lemmas.Bool.Decides.{eqb_tells}
-use Rattle.lock_manager.specs.declared.request.ProcState.{ProcState}
-use Rattle.lock_manager.specs.declared.request.ProcState.TheVariants.{Unborn, Live, Waiting}
-use Rattle.lock_manager.specs.State.{state_numbered, StandsSo}
 use Rattle.lock_manager.proofs.kept.BookLemmas.{slice_get-set_same, slice_get-set_other}
 
 -- one process' state is replaced, and every other one stays

@@ -1,10 +1,6 @@
 -- What the loops that release locks have done so far: for `release`.
-use Rattle.std.proofs.Common.{arith, ℕ, ◌≡◌, ◌+◌, ◌<◌, sym, ◌∙◌, ap, List, length, take, get_or, Some, ◌==◌, ◌||◌, slice_get, slice_set}
-use Rattle.std.proofs.lemmas.Grind.{common_steps}
+use Rattle.lock_manager.proofs.Common.{arith, ℕ, ◌≡◌, ◌+◌, ◌<◌, sym, ◌∙◌, ap, List, length, take, get_or, Some, ◌==◌, ◌||◌, slice_get, slice_set, common_steps, Book, locks_of, is_one_of, ReleasesInBook, ReleasesLocks, ReleasesRoom}
 use Rattle.std.proofs.lemmas.List.Folds.{list_any_more}
-use Rattle.lock_book.specs.declared.book.Book.{Book}
-use Rattle.wait_core.specs.Locks.{locks_of}
-use Rattle.lock_manager.specs.LockReleases.{is_one_of, ReleasesInBook, ReleasesLocks, ReleasesRoom}
 use Rattle.lock_manager.proofs.kept.BookLemmas.{slice_get-set, entry_is}
 
 -- one more number

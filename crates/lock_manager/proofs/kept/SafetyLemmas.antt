@@ -1,24 +1,11 @@
 -- No owners conflict after a change that nothing blocked: for `Machine::new`.
-use Rattle.std.proofs.Common.{arith, ℕ, ◌≡◌, ◌≢◌, ◌<◌, refl, sym, ◌∙◌, ap, subst, List, [], ◌∷◌, ◌++◌, Some, None, Option, Bool, true, false, All, ◌==◌, ◌&&◌, if◌then◌else◌, slice_get, slice_set, Result, OnOk, OnErr, length, eqb-true, eq-eqb, leb-true}
-use Rattle.std.proofs.lemmas.Bool.{and_parts}
-use Rattle.std.proofs.lemmas.Grind.{common_steps}
-use Rattle.range_core.specs.declared.Memory.{Memory}
-use Rattle.lock_book.specs.declared.book.Book.{Book}
-use Rattle.lock_book.specs.Books.{SetsOwnerMode, SameBook}
+use Rattle.lock_manager.proofs.Common.{arith, ℕ, ◌≡◌, ◌≢◌, ◌<◌, refl, sym, ◌∙◌, ap, subst, List, [], ◌∷◌, ◌++◌, Some, None, Option, Bool, true, false, All, ◌==◌, ◌&&◌, if◌then◌else◌, slice_get, slice_set, Result, OnOk, OnErr, length, eq-eqb, and_parts, common_steps}
+use Rattle.lock_manager.proofs.Common.{Memory, Book, SetsOwnerMode, SameBook, Mode, Span, Covers, HeldConflicts, is_covered, Owner, is_same_owner, ByteConflict, Policy, Wait, Locks, locks_of, IsFreeOfCycles, AreCompatible, HoldsNothing}
+use Rattle.std.proofs.Common.{eqb-true, leb-true}
 use Rattle.lock_manager.proofs.kept.BookLemmas.{unlocked_bytes, unlocked_flocks, changed, after_set}
-use Rattle.range_core.specs.declared.Mode.{Mode}
-use Rattle.range_core.specs.declared.Span.{Span}
-use Rattle.range_core.specs.Ranges.{Conflict, Covers, HeldConflicts}
-use Rattle.range_core.specs.Changes.{is_covered}
-use Rattle.lock_book.specs.declared.Owner.{Owner}
-use Rattle.lock_book.specs.Owners.{is_same_owner}
-use Rattle.lock_book.specs.Conflicts.{ByteConflict, NoneConflict}
-use Rattle.wait_core.specs.declared.Policy.{Policy}
-use Rattle.wait_core.specs.declared.Wait.{Wait}
-use Rattle.wait_core.specs.Locks.{Locks, locks_of}
-use Rattle.wait_core.specs.Cycles.{IsFreeOfCycles, WaitsFor, IsChain}
-use Rattle.lock_manager.specs.Safety.{AreCompatible}
-use Rattle.lock_manager.specs.Opening.{HoldsNothing}
+use Rattle.range_core.specs.Ranges.{Conflict}
+use Rattle.lock_book.specs.Conflicts.{NoneConflict}
+use Rattle.wait_core.specs.Cycles.{WaitsFor, IsChain}
 
 -- two owners that are found the same are the same
 pub same_owner : (a b : Owner) → is_same_owner a b ≡ true → a ≡ b

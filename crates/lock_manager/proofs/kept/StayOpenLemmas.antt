@@ -1,21 +1,8 @@
 -- What is open stays open in the calls that close nothing: for `Machine::close_fd`, `Machine::dup`, `Machine::dup_to` and others.
-use Rattle.std.proofs.Common.{arith, ℕ, ◌≡◌, refl, List, ◌++◌, Some, None, Option, Result, Ok, Err, OnErr, ℤ, eqb-true, slice_get, slice_set, option_map, length-append}
+use Rattle.lock_manager.proofs.Common.{arith, ℕ, ◌≡◌, refl, List, ◌++◌, Some, None, Option, Result, Ok, Err, OnErr, ℤ, slice_get, slice_set, option_map, length-append, common_steps, slice_get_within, slice_get_cases, eqb_tells}
+use Rattle.lock_manager.proofs.Common.{Access, FdFault, Limits, Tables, Descriptors, OpenFileDescription, description_numbered, HadMemory, OpenGives, DupGives, ForkGives, SeekGives, ResizeGives, StandFor, locks_of, waits_of, Machine, AreKept, AreOwned}
+use Rattle.std.proofs.Common.{eqb-true}
 use Rattle.std.proofs.lemmas.List.{get_or_append_left}
-use Rattle.std.proofs.lemmas.Grind.{common_steps}
-use Rattle.std.proofs.lemmas.Option.{slice_get_within, slice_get_cases}
-use Rattle.std.proofs.lemmas.Bool.Decides.{eqb_tells}
-use Rattle.fd_table.specs.declared.Access.{Access}
-use Rattle.fd_table.specs.declared.FdFault.{FdFault}
-use Rattle.fd_table.specs.declared.Limits.{Limits}
-use Rattle.fd_table.specs.declared.tables.Tables.{Tables}
-use Rattle.fd_table.specs.Descriptors.{Descriptors, OpenFileDescription, description_numbered}
-use Rattle.fd_table.specs.Calls.{HadMemory, OpenGives, DupGives, ForkGives, SeekGives, ResizeGives}
-use Rattle.fd_table.specs.TablesView.{StandFor}
-use Rattle.wait_core.specs.Locks.{locks_of}
-use Rattle.wait_core.specs.WaitsView.{waits_of}
-use Rattle.lock_manager.specs.declared.machine.Machine.{Machine}
-use Rattle.lock_manager.specs.WaitsKept.{AreKept}
-use Rattle.lock_manager.specs.DescriptionLocks.{AreOwned}
 use Rattle.lock_manager.proofs.kept.BookLemmas.{slice_get-set_same, slice_get-set_other}
 use Rattle.lock_manager.proofs.calls.DescriptorCallLemmas.{Giving, Gave}
 use Rattle.lock_manager.proofs.kept.OwnedLemmas.{StayOpen, owned_after}

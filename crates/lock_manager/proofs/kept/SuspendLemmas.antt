@@ -1,36 +1,16 @@
 -- What holds of the machine when one more process waits: for `Machine::join`, `Machine::keep_room`, `Machine::pending` and others.
-use Rattle.std.proofs.lemmas.Grind.{common_steps}
-use Rattle.std.proofs.Common.{ℕ, ◌≡◌, ◌≢◌, ◌<◌, ◌≤◌, ◌+◌, refl, sym, ◌∙◌, ap, subst, List, [], ◌∷◌, ◌++◌, length, Some, None, Bool, All, Result, OnOk, OnErr, arith, slice_get, slice_set, if◌then◌else◌, filter, length-append}
-use Rattle.std.proofs.Math.Logic.{∥∥₁_map}
-use Rattle.std.proofs.lemmas.Bool.{cases_Bool, eqb-true, eq-eqb, and_parts}
-use Rattle.std.proofs.lemmas.Bool.Decides.{eqb_tells}
-use Rattle.std.proofs.lemmas.List.Elements.{All-head, All-tail, All-push, filter-append}
+use Rattle.lock_manager.proofs.Common.{common_steps, ℕ, ◌≡◌, ◌≢◌, ◌<◌, ◌≤◌, ◌+◌, refl, sym, ◌∙◌, ap, subst, List, [], ◌∷◌, ◌++◌, length, Some, None, Bool, All, Result, OnOk, OnErr, arith, slice_get, slice_set, if◌then◌else◌, length-append, ∥∥₁_map, cases_Bool, eqb-true, and_parts, eqb_tells, All-head, All-tail}
+use Rattle.lock_manager.proofs.Common.{Memory, Owner, Book, room_in, SameBook, Tables, Descriptors, StandFor, Bytes, Wait, Waits, Locks, locks_of, ClosesCycle, IsFreeOfCycles, AreBlockedElsewhere, waits_of, wait_of, AreTold, Machine, ProcState, Live, Waiting, State, state_numbered, with_process, StandsSo, AreOwned, AreWithinFiles, MayWaitAs, AreCompatible, Shows, machine_state, machine_locks, machine_waits, AreKept, AreStanding, AreApart, HaveRoom, is_byte_wait, room_at, StayKnown}
+use Rattle.std.proofs.Common.{filter}
+use Rattle.std.proofs.lemmas.Bool.{eq-eqb}
+use Rattle.std.proofs.lemmas.List.Elements.{All-push, filter-append}
 use Rattle.std.proofs.lemmas.List.Folds.{find-append, list_any-append}
 use Rattle.std.proofs.lemmas.List.Quantifiers.{all_pairs_push}
 use Rattle.std.proofs.lemmas.List.Sums.{length-filter, count_by-le-length}
-use Rattle.range_core.specs.declared.Memory.{Memory}
-use Rattle.lock_book.specs.declared.Owner.{Owner}
-use Rattle.lock_book.specs.declared.book.Book.{Book}
-use Rattle.lock_book.specs.Books.{room_in, SameButRoom, SameBook}
-use Rattle.fd_table.specs.declared.tables.Tables.{Tables}
-use Rattle.fd_table.specs.Descriptors.{Descriptors}
-use Rattle.fd_table.specs.TablesView.{StandFor}
-use Rattle.wait_core.specs.declared.Family.TheVariants.{Bytes}
-use Rattle.wait_core.specs.declared.Wait.{Wait}
-use Rattle.wait_core.specs.declared.waits.Waits.{Waits}
-use Rattle.wait_core.specs.Locks.{Locks, locks_of}
-use Rattle.wait_core.specs.Cycles.{IsTraditional, ClosesCycle, IsFreeOfCycles}
-use Rattle.wait_core.specs.Settled.{AreBlockedElsewhere}
-use Rattle.wait_core.specs.WaitsView.{waits_of, wait_of, AreTold}
+use Rattle.lock_book.specs.Books.{SameButRoom}
+use Rattle.wait_core.specs.Cycles.{IsTraditional}
 use Rattle.wait_core.specs.FreeOfCycles.{FreeWhenOneJoins}
-use Rattle.lock_manager.specs.declared.machine.Machine.{Machine}
-use Rattle.lock_manager.specs.declared.request.ProcState.{ProcState}
-use Rattle.lock_manager.specs.declared.request.ProcState.TheVariants.{Live, Waiting}
-use Rattle.lock_manager.specs.State.{State, state_numbered, with_process, StandsSo}
-use Rattle.lock_manager.specs.DescriptionLocks.{AreOwned, AreWithinFiles, MayWait, MayWaitAs}
-use Rattle.lock_manager.specs.Safety.{AreCompatible}
-use Rattle.lock_manager.specs.MachineView.{Shows, machine_state, machine_locks, machine_waits}
-use Rattle.lock_manager.specs.WaitsKept.{AreKept, AreStanding, AreApart, HaveRoom, is_byte_wait, room_at, StayKnown}
+use Rattle.lock_manager.specs.DescriptionLocks.{MayWait}
 use Rattle.lock_manager.proofs.kept.BookLemmas.{slice_get-set_same, locks_stay}
 use Rattle.lock_manager.proofs.kept.SafetyLemmas.{same_owner, itself}
 use Rattle.lock_manager.proofs.kept.ProcessLemmas.{waiting_still, stands_set, lived_before}

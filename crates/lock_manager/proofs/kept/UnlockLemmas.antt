@@ -1,17 +1,5 @@
 -- What an unlock leaves where the owner had no lock (`unlock`, the clause ok).
-use Rattle.std.proofs.Common.{arith, ℕ, ◌≡◌, List, Some, None, Option, slice_get}
-use Rattle.std.proofs.lemmas.Grind.{common_steps}
-use Rattle.range_core.specs.declared.Mode.{Mode}
-use Rattle.range_core.specs.declared.Mode.TheVariants.{Write}
-use Rattle.range_core.specs.declared.Span.{Span}
-use Rattle.range_core.specs.Ranges.{Covers, HeldConflicts}
-use Rattle.lock_book.specs.declared.Owner.{Owner}
-use Rattle.lock_book.specs.declared.book.Book.{Book}
-use Rattle.lock_book.specs.Books.{byte_modes_of}
-use Rattle.wait_core.specs.Locks.{locks_of}
-use Rattle.lock_manager.specs.declared.machine.Machine.{Machine}
-use Rattle.lock_manager.specs.State.{State, with_byte_mode}
-use Rattle.lock_manager.specs.MachineView.{Shows, machine_locks}
+use Rattle.lock_manager.proofs.Common.{arith, ℕ, ◌≡◌, List, Some, None, Option, slice_get, common_steps, Mode, Write, Span, Covers, HeldConflicts, Owner, Book, byte_modes_of, locks_of, Machine, State, with_byte_mode, Shows, machine_locks}
 use Rattle.lock_manager.proofs.kept.BookLemmas.{mode_from-push}
 use Rattle.lock_manager.proofs.kept.SafetyLemmas.{hit}
 

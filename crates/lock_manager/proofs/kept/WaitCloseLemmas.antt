@@ -1,28 +1,10 @@
 -- What holds of the waits stays so after a release: for `release`.
-use Rattle.std.proofs.lemmas.Grind.{common_steps}
-use Rattle.std.proofs.Common.{ℕ, suc, ◌≡◌, ◌≢◌, ◌≤◌, refl, sym, ◌∙◌, subst, List, [], ◌∷◌, length, Bool, true, false, All, get_or, arith, ◌==◌, ◌&&◌, if◌then◌else◌, slice_get}
+use Rattle.lock_manager.proofs.Common.{common_steps, ℕ, suc, ◌≡◌, ◌≢◌, ◌≤◌, refl, sym, ◌∙◌, subst, List, [], ◌∷◌, length, Bool, true, false, All, get_or, arith, ◌==◌, ◌&&◌, if◌then◌else◌, slice_get, ∥∥₁_elim, cases_Bool, eqb-true, eqb_tells, list_any}
+use Rattle.lock_manager.proofs.Common.{Owner, Process, Description, Book, is_same_owner, ByteModes, Tables, Released, Descriptors, StandFor, Policy, Wait, Locks, IsFreeOfCycles, FreeWhenLocksChange, FreeWhenDescriptionLocksChange, MayWaitAs, AreOwned, is_one_of, is_released, ReleasesLocks, ReleasesRoom, HaveRoom, is_byte_wait, room_at, has_place_at}
 use Rattle.std.proofs.lemmas.List.Folds.{list_any_none}
-use Rattle.std.proofs.Math.Logic.{∥∥₁_elim}
-use Rattle.std.proofs.lemmas.Bool.{cases_Bool, eqb-true}
-use Rattle.std.proofs.lemmas.Bool.Decides.{eqb_tells}
-use Rattle.std.specs.List.{filter, list_any}
-use Rattle.lock_book.specs.declared.Owner.{Owner}
-use Rattle.lock_book.specs.declared.Owner.TheVariants.{Process, Description}
-use Rattle.lock_book.specs.declared.book.Book.{Book}
-use Rattle.lock_book.specs.Owners.{is_same_owner}
-use Rattle.lock_book.specs.Conflicts.{ByteModes}
-use Rattle.fd_table.specs.declared.tables.Tables.{Tables}
-use Rattle.fd_table.specs.Releases.{Released}
-use Rattle.fd_table.specs.Descriptors.{Descriptors}
-use Rattle.fd_table.specs.TablesView.{StandFor}
-use Rattle.wait_core.specs.declared.Policy.{Policy}
-use Rattle.wait_core.specs.declared.Wait.{Wait}
-use Rattle.wait_core.specs.Locks.{Locks}
-use Rattle.wait_core.specs.Cycles.{IsFreeOfCycles}
-use Rattle.wait_core.specs.FreeOfCycles.{FreeWhenLocksChange, FreeWhenDescriptionLocksChange}
-use Rattle.lock_manager.specs.DescriptionLocks.{HasOpenOn, MayWaitAs, AreOfHolders, AreOwned}
-use Rattle.lock_manager.specs.LockReleases.{is_one_of, is_released, ReleasesLocks, ReleasesRoom}
-use Rattle.lock_manager.specs.WaitsKept.{HaveRoom, is_byte_wait, is_flock_wait, is_of_bytes, is_of_whole, room_at, has_place_at}
+use Rattle.std.specs.List.{filter}
+use Rattle.lock_manager.specs.DescriptionLocks.{HasOpenOn, AreOfHolders}
+use Rattle.lock_manager.specs.WaitsKept.{is_flock_wait, is_of_bytes, is_of_whole}
 use Rattle.lock_manager.proofs.kept.ClosingLemmas.{Closing, is_member}
 use Rattle.lock_manager.proofs.kept.OwnedLemmas.{may_wait_more}
 use Rattle.lock_manager.proofs.kept.SafetyLemmas.{same_owner}

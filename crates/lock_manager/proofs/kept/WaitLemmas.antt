@@ -1,36 +1,14 @@
 -- What holds of the waits stays so while locks, descriptors and processes change: for `Machine::change`, `Machine::change_flock`, `Machine::close_fd`
 -- and others.
-use Rattle.std.proofs.lemmas.Grind.{common_steps}
-use Rattle.std.proofs.Common.{ℕ, ◌≡◌, ◌≢◌, ◌<◌, ◌≤◌, refl, ◌∙◌, List, [], ◌∷◌, ◌++◌, length, None, Some, Option, Bool, true, false, Result, OnOk, OnErr, All, arith, ◌==◌, if◌then◌else◌, slice_get, slice_set, IsFalse}
-use Rattle.std.proofs.Math.Logic.{∥∥₁_elim}
-use Rattle.std.proofs.lemmas.Bool.{cases_Bool, eqb-true}
-use Rattle.std.specs.List.{list_any}
-use Rattle.std.proofs.lemmas.List.Folds.{Any-from_list_any}
-use Rattle.range_core.specs.declared.Memory.{Memory}
-use Rattle.range_core.specs.declared.Mode.{Mode}
-use Rattle.range_core.specs.declared.Span.{Span}
-use Rattle.lock_book.specs.declared.Owner.{Owner}
-use Rattle.lock_book.specs.declared.Owner.TheVariants.{Process, Description}
-use Rattle.lock_book.specs.declared.book.Book.{Book}
-use Rattle.lock_book.specs.Books.{SetsOwnerMode, SameBook, byte_modes_of, flock_modes_of, room_in, has_flock_place}
-use Rattle.fd_table.specs.declared.tables.Tables.{Tables}
-use Rattle.fd_table.specs.Descriptors.{Descriptors}
-use Rattle.fd_table.specs.TablesView.{StandFor, ever_alive}
-use Rattle.wait_core.specs.declared.Policy.{Policy}
-use Rattle.wait_core.specs.declared.Wait.{Wait}
+use Rattle.lock_manager.proofs.Common.{common_steps, ℕ, ◌≡◌, ◌≢◌, ◌<◌, ◌≤◌, refl, ◌∙◌, List, [], ◌∷◌, ◌++◌, length, None, Some, Option, Bool, true, false, Result, OnOk, OnErr, All, arith, ◌==◌, if◌then◌else◌, slice_get, slice_set, IsFalse, ∥∥₁_elim, cases_Bool, eqb-true, list_any, Any-from_list_any}
+use Rattle.lock_manager.proofs.Common.{Memory, Mode, Span, Owner, Process, Description, Book, SetsOwnerMode, SameBook, byte_modes_of, flock_modes_of, room_in, Tables, Descriptors, StandFor, ever_alive, Policy, Wait, Locks, locks_of, Waits, IsFreeOfCycles, AreBlockedElsewhere, waits_of, wait_of, AreTold, FreeWhenLocksChange, FreeWhenDescriptionLocksChange, ProcState, Live, Waiting, state_numbered, AreOwned, IsSuspended, AreStanding, HaveRoom, has_place_at}
+use Rattle.lock_book.specs.Books.{has_flock_place}
 use Rattle.wait_core.specs.declared.processes.ProcessSet.{ProcessSet}
-use Rattle.wait_core.specs.Locks.{Locks, locks_of}
-use Rattle.wait_core.specs.declared.waits.Waits.{Waits}
-use Rattle.wait_core.specs.Cycles.{IsFreeOfCycles}
-use Rattle.wait_core.specs.Settled.{AllBlockedWhere, AgreeElsewhere, AreBlockedElsewhere}
-use Rattle.wait_core.specs.WaitsView.{waits_of, policy_of, wait_of, AreTold}
+use Rattle.wait_core.specs.Settled.{AllBlockedWhere, AgreeElsewhere}
+use Rattle.wait_core.specs.WaitsView.{policy_of}
 use Rattle.wait_core.specs.Processes.{AreThoseWaiting}
-use Rattle.wait_core.specs.FreeOfCycles.{FreeWhenLocksChange, FreeWhenDescriptionLocksChange}
-use Rattle.lock_manager.specs.declared.request.ProcState.{ProcState}
-use Rattle.lock_manager.specs.declared.request.ProcState.TheVariants.{Live, Waiting}
-use Rattle.lock_manager.specs.State.{AreWaiting, state_numbered}
-use Rattle.lock_manager.specs.DescriptionLocks.{AreOwned}
-use Rattle.lock_manager.specs.WaitsKept.{StayBlocked, IsSuspended, AreStanding, HaveRoom, has_place_at}
+use Rattle.lock_manager.specs.State.{AreWaiting}
+use Rattle.lock_manager.specs.WaitsKept.{StayBlocked}
 use Rattle.lock_manager.proofs.kept.BookLemmas.{slice_get-set, slice_get-set_other, entry_is, after_set, changed}
 use Rattle.lock_manager.proofs.kept.SafetyLemmas.{same_owner, itself, hit}
 

@@ -1,8 +1,6 @@
 -- Predicates that some value meets, and the choices by a fact and the chains that are made of them. That some value does is said by a double
 -- negation: it can't be that none does. So a fact may be asked of which no test is known.
-use Rattle.std.proofs.Common.{ℕ, zero, suc, ◌≡◌, ◌<◌, subst, arith, inl, inr}
-use Rattle.std.proofs.lemmas.Bool.{cases_lt}
-use Rattle.range_core.specs.Facts.{MatchFact}
+use Rattle.lock_manager.proofs.Common.{ℕ, zero, suc, ◌≡◌, ◌<◌, subst, arith, inl, inr, cases_lt, MatchFact}
 
 -- some value meets the predicate
 abbrev pub AtLeastOne : {A : Type 0} → (A → Type 0) → Type 0

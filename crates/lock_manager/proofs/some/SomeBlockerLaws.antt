@@ -1,16 +1,9 @@
 -- Where a lock is blocked there is one that a get command reports.
-use Rattle.std.proofs.lemmas.Grind.{common_steps}
-use Rattle.std.proofs.Common.{◌≡◌, ◌≢◌, ℕ, suc, ◌+◌, ◌-◌, ◌<◌, ◌≤◌, refl, arith, false, nat_le, List, [], ◌∷◌, Option, Some, None}
-use Rattle.std.proofs.lemmas.Bool.{cases_lt, lt-leb, and_right}
-use Rattle.range_core.specs.declared.Mode.{Mode}
-use Rattle.range_core.specs.declared.Span.{Span}
-use Rattle.range_core.specs.Changes.{is_covered}
-use Rattle.range_core.specs.Ranges.{Modes, Covers, HeldConflicts, IsRun}
-use Rattle.lock_book.specs.declared.Owner.{Owner}
-use Rattle.lock_book.specs.declared.Owner.TheVariants.{Process, Description}
-use Rattle.lock_book.specs.Changes.{Change, mode_from, mode_in}
+use Rattle.lock_manager.proofs.Common.{common_steps, ◌≡◌, ◌≢◌, ℕ, suc, ◌+◌, ◌-◌, ◌<◌, ◌≤◌, refl, arith, false, nat_le, List, [], ◌∷◌, Option, Some, None, cases_lt, Mode, Span, is_covered, Covers, HeldConflicts, Owner, Process, Description, Change, mode_from, mode_in, ByteModes, ByteConflict, IsFirstBlocker}
+use Rattle.std.proofs.lemmas.Bool.{lt-leb, and_right}
+use Rattle.range_core.specs.Ranges.{Modes, IsRun}
 use Rattle.lock_book.specs.Owners.{IsBefore}
-use Rattle.lock_book.specs.Conflicts.{ByteModes, Blocks, ByteConflict, IsFirstBlocker}
+use Rattle.lock_book.specs.Conflicts.{Blocks}
 use Rattle.lock_manager.proofs.some.AtLeastOneLemmas.{AtLeastOne, IsLeast, by_cases, some_least}
 
 -- no byte from this one on has a mode

@@ -1,19 +1,13 @@
 -- Each call on descriptors answers something and leaves some descriptors, where those that are open refer to descriptions that were made.
-use Rattle.std.proofs.Common.{◌≡◌, ℕ, zero, suc, ◌+◌, ◌<◌, ◌≤◌, ◌==◌, Bool, true, false, MatchBool, Option, Some, None, IsSome, Result, Ok, Err, ℤ, pos, negsuc, ◌<ℤ◌, refl, subst, ◌⊎◌, inl, inr, arith, List, [], ◌∷◌, length, option_map, get_or, Contains}
-use Rattle.std.proofs.lemmas.Grind.{common_steps}
-use Rattle.std.proofs.lemmas.Option.{slice_get_cases}
-use Rattle.std.proofs.lemmas.Bool.{cases_lt}
+use Rattle.lock_manager.proofs.Common.{◌≡◌, ℕ, zero, suc, ◌+◌, ◌<◌, ◌≤◌, ◌==◌, Bool, true, false, MatchBool, Option, Some, None, IsSome, Result, Ok, Err, ℤ, refl, subst, ◌⊎◌, inl, inr, arith, List, [], ◌∷◌, length, option_map, get_or, Contains, common_steps, slice_get_cases, cases_lt}
+use Rattle.lock_manager.proofs.Common.{Access, Limits, FdFault, BadFd, TooMany, Invalid, Taken, Descriptors, OpenFileDescription, SameDescriptors, description_numbered, with_descriptor, without_descriptors, AreReleased, ClosesFile, nothing, OpenGives, DupGives, DupToGives, CloseGives, EndGives, ForkGives, SeekGives, ResizeGives, AreMade}
+use Rattle.std.proofs.Common.{pos, negsuc, ◌<ℤ◌}
 use Rattle.std.proofs.lemmas.Int.{ints}
 use Rattle.std.proofs.lemmas.List.Elements.{Contains-get_or, Contains-append_left, Contains-append_right, Contains-append_cases, Contains-push, Contains-push_cases}
 use Rattle.fd_table.specs.declared.TheConstants.{FILES}
-use Rattle.fd_table.specs.declared.Access.{Access}
-use Rattle.fd_table.specs.declared.Limits.{Limits}
-use Rattle.fd_table.specs.declared.FdFault.{FdFault}
-use Rattle.fd_table.specs.declared.FdFault.TheVariants.{BadFd, TooMany, Invalid, Taken}
-use Rattle.fd_table.specs.Descriptors.{Descriptors, OpenFileDescription, IsFull, IsLowestFree, SameDescriptors, description_limit, descriptor_limit, description_numbered, with_description, with_descriptor, without_descriptors, with_child, with_offset, with_size}
-use Rattle.fd_table.specs.Releases.{AreExactly, AreReleased, ClosesFile, ClosesDescription, nothing}
-use Rattle.fd_table.specs.Calls.{OpenGives, DupGives, DupToGives, CloseGives, EndGives, IsFreeProcess, ForkGives, Refers, SeekGives, ResizeGives}
-use Rattle.lock_manager.specs.SomeOutcome.{AreMade}
+use Rattle.fd_table.specs.Descriptors.{IsFull, IsLowestFree, description_limit, descriptor_limit, with_description, with_child, with_offset, with_size}
+use Rattle.fd_table.specs.Releases.{AreExactly, ClosesDescription}
+use Rattle.fd_table.specs.Calls.{IsFreeProcess, Refers}
 use Rattle.lock_manager.proofs.some.AtLeastOneLemmas.{AtLeastOne, SomePair, by_cases}
 
 -- descriptors agree with themselves

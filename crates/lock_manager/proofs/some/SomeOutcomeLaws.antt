@@ -1,41 +1,14 @@
 -- A request comes to some outcome, settling ends, and so there is a step.
-use Rattle.std.proofs.Common.{◌≡◌, ℕ, zero, suc, ◌<◌, List, [], ◌∷◌, ◌++◌, length, length-append, append-nil, append_assoc, ◌==◌, Bool, true, false, Option, Some, None, Result, Ok, Err, inl, inr, refl, sym, ◌∙◌, subst, arith, MatchResult}
+use Rattle.lock_manager.proofs.Common.{◌≡◌, ℕ, zero, suc, ◌<◌, List, [], ◌∷◌, ◌++◌, length, length-append, append-nil, append_assoc, ◌==◌, Bool, true, false, Option, Some, None, Result, Ok, Err, inl, inr, refl, sym, ◌∙◌, subst, arith, MatchResult}
+use Rattle.lock_manager.proofs.Common.{Mode, FdFault, BadFd, TooMany, Invalid, Taken, Look, Descriptors, HadMemory, OpenGives, DupGives, DupToGives, CloseGives, SeekGives, ResizeGives, ForkGives, EndGives, Policy, Wait, Locks, IsBlockedByLock, IsBlocked, AllBlocked, IsNextBetween, ClosesCycle, wait_of, Rules, Lock, LkCmd, GetLk, SetLk, SetLkW, OGetLk, OSetLk, OSetLkW, FlockOp, Request, OpenFile, Dup, DupTo, CloseFd, Seek, Resize, Lk, Flock, Fork, Exit, Signal, Kill, Enter, Leave, Bail, Note, Answer, ProcState, Unborn, Live, Waiting, Ended, State, locks_held, with_flock_mode, with_process, Settles, granted, Outcome, answered, IsRefusal, with_released, GetComesTo, CommandComesTo, LockComesTo, FlockTestComesTo, FlockModeComesTo, FlockComesTo, EndComesTo, SignalComesTo, KillOtherComesTo, may_enter, may_leave, marked, ComesTo, Step, IsWhole}
 use Rattle.range_core.specs.declared.Memory.{Memory as MemoryFault}
-use Rattle.range_core.specs.declared.Mode.{Mode}
-use Rattle.fd_table.specs.declared.FdFault.{FdFault}
-use Rattle.fd_table.specs.declared.FdFault.TheVariants.{BadFd, TooMany, Invalid, Taken, Memory}
-use Rattle.fd_table.specs.declared.tables.Look.{Look}
-use Rattle.fd_table.specs.Descriptors.{Descriptors}
-use Rattle.fd_table.specs.Calls.{HadMemory, OpenGives, DupGives, DupToGives, CloseGives, SeekGives, ResizeGives, ForkGives, EndGives}
-use Rattle.wait_core.specs.declared.Policy.{Policy}
-use Rattle.wait_core.specs.declared.Wait.{Wait}
-use Rattle.wait_core.specs.Locks.{Locks}
-use Rattle.wait_core.specs.Blocking.{IsBlockedByLock, IsBlocked, AllBlocked, IsNextBetween}
-use Rattle.wait_core.specs.Cycles.{ClosesCycle}
-use Rattle.wait_core.specs.WaitsView.{wait_of}
-use Rattle.lock_manager.specs.declared.request.Rules.{Rules}
-use Rattle.lock_manager.specs.declared.request.Lock.{Lock}
-use Rattle.lock_manager.specs.declared.request.LkCmd.{LkCmd}
-use Rattle.lock_manager.specs.declared.request.LkCmd.TheVariants.{GetLk, SetLk, SetLkW, OGetLk, OSetLk, OSetLkW}
-use Rattle.lock_manager.specs.declared.request.FlockOp.{FlockOp}
+use Rattle.fd_table.specs.declared.FdFault.TheVariants.{Memory}
 use Rattle.lock_manager.specs.declared.request.Errno.TheVariants.{EBADF, EMFILE, EINVAL, EAGAIN}
-use Rattle.lock_manager.specs.declared.request.Request.{Request}
-use Rattle.lock_manager.specs.declared.request.Request.TheVariants.{OpenFile, Dup, DupTo, CloseFd, Seek, Resize, Lk, Flock, Fork, Exit, Signal, Kill, Enter, Leave, Bail}
-use Rattle.lock_manager.specs.declared.request.Note.{Note}
-use Rattle.lock_manager.specs.declared.request.Note.TheVariants.{Answer}
 use Rattle.lock_manager.specs.declared.request.Reply.TheVariants as replies
-use Rattle.lock_manager.specs.declared.request.ProcState.{ProcState}
-use Rattle.lock_manager.specs.declared.request.ProcState.TheVariants.{Unborn, Live, Waiting, Ended}
-use Rattle.lock_manager.specs.State.{State, locks_held, with_flock_mode, with_process}
-use Rattle.lock_manager.specs.Settling.{Settles, granted}
-use Rattle.lock_manager.specs.Outcomes.{Outcome, answered, refused, IsRefusal}
-use Rattle.lock_manager.specs.DescriptorCalls.{with_released}
-use Rattle.lock_manager.specs.LockCommands.{GetComesTo, SetComesTo, SetOrWaitComesTo, WaitOrDeadlockComesTo, CommandComesTo, LockComesTo}
-use Rattle.lock_manager.specs.FlockCalls.{FlockTestComesTo, FlockModeComesTo, FlockComesTo, RemovesOldLock, is_same_mode}
-use Rattle.lock_manager.specs.ProcessCalls.{EndComesTo, SignalComesTo, KillOtherComesTo, KillComesTo}
-use Rattle.lock_manager.specs.Sections.{may_enter, may_leave, marked}
-use Rattle.lock_manager.specs.Step.{ComesTo, Step}
-use Rattle.lock_manager.specs.SomeOutcome.{IsWhole}
+use Rattle.lock_manager.specs.Outcomes.{refused}
+use Rattle.lock_manager.specs.LockCommands.{SetComesTo, SetOrWaitComesTo, WaitOrDeadlockComesTo}
+use Rattle.lock_manager.specs.FlockCalls.{RemovesOldLock, is_same_mode}
+use Rattle.lock_manager.specs.ProcessCalls.{KillComesTo}
 use Rattle.lock_manager.proofs.some.AtLeastOneLemmas.{AtLeastOne, SomePair, this_value, by_cases, MatchFact-some, some_by_one, some_by_two}
 use Rattle.lock_manager.proofs.ChoiceLemmas.{MatchBool-by, LockComesTo-by, FlockComesTo-by}
 use Rattle.lock_manager.proofs.some.SomeBlockerLaws.{bytes_below, AreBelow-changes, FirstBlocker-some}

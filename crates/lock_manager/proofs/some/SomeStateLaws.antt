@@ -1,17 +1,8 @@
 -- Any manager stands for some state, so no clause that speaks of those is empty: for `managers_stand_for_some`.
-use Rattle.std.proofs.lemmas.Grind.{common_steps}
-use Rattle.std.proofs.Common.{arith, ◌≡◌, ◌≢◌, ℕ, zero, suc, ◌+◌, ◌<◌, refl, Option, None, List, [], ◌∷◌, ◌++◌, All, slice_get}
-use Rattle.std.proofs.lemmas.Bool.Decides.{nat_tests}
-use Rattle.std.proofs.lemmas.List.Elements.{All-head, All-tail}
-use Rattle.range_core.specs.declared.Mode.{Mode}
-use Rattle.lock_book.specs.declared.Owner.{Owner}
-use Rattle.lock_book.specs.declared.book.Book.{Book}
-use Rattle.lock_book.specs.Changes.{Change, FlockChange, mode_from, flock_mode_from}
+use Rattle.lock_manager.proofs.Common.{common_steps, arith, ◌≡◌, ◌≢◌, ℕ, zero, suc, ◌+◌, ◌<◌, refl, Option, None, List, [], ◌∷◌, ◌++◌, All, slice_get, nat_tests, All-head, All-tail, Mode, Owner, Book, Change, FlockChange, mode_from, flock_mode_from, byte_modes_at, flock_modes_at, machine_state, machine_locks, machine_waits, state_at}
 use Rattle.lock_book.specs.SomeChanges.{BooksStandForSome}
 use Rattle.fd_table.specs.TablesView.{TablesStandForSome}
-use Rattle.wait_core.specs.Locks.{byte_modes_at, flock_modes_at}
-use Rattle.lock_manager.specs.MachineView.{machine_state, machine_locks, machine_waits}
-use Rattle.lock_manager.specs.ManagerView.{state_at, locks_in_books, waits_of, visit_at, refused_at}
+use Rattle.lock_manager.specs.ManagerView.{locks_in_books, waits_of, visit_at, refused_at}
 use Rattle.lock_manager.specs.SomeState.{ManagersStandForSome}
 use Rattle.lock_manager.proofs.kept.BookLemmas.{mode_from-append, flock_mode_from-append}
 

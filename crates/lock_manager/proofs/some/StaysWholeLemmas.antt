@@ -1,38 +1,10 @@
 -- A step keeps what a step needs: open descriptors refer to descriptions that were made, and who waits has a wait in the list.
-use Rattle.std.proofs.lemmas.Grind.{common_steps}
-use Rattle.std.proofs.Common.{rules, ◌≡◌, ◌≢◌, ℕ, zero, suc, ◌+◌, ◌==◌, ◌||◌, Bool, true, false, Option, Some, None, IsSome, Result, Ok, Err, MatchBool, MatchOption, MatchResult, inl, inr, refl, sym, ◌∙◌, subst, arith, List, [], ◌∷◌, ◌++◌, length, pred, if◌then◌else◌, slice_get, slice_set, length-set, length-append}
+use Rattle.lock_manager.proofs.Common.{common_steps, rules, ◌≡◌, ◌≢◌, ℕ, zero, suc, ◌+◌, ◌==◌, ◌||◌, Bool, true, false, Option, Some, None, IsSome, Result, Ok, Err, MatchBool, MatchOption, MatchResult, inl, inr, refl, sym, ◌∙◌, subst, arith, List, [], ◌∷◌, ◌++◌, length, if◌then◌else◌, slice_get, slice_set, length-append, cases_Bool, eqb_tells, same_Some, slice_get_cases}
+use Rattle.lock_manager.proofs.Common.{MatchFact, resolution, Access, Look, Descriptors, OpenFileDescription, SameDescriptors, opening_descriptors, description_numbered, look_at, with_descriptor, Policy, Wait, wait_of, without_wait_of, Rules, Lock, LkCmd, GetLk, SetLk, SetLkW, OGetLk, OSetLk, OSetLkW, FlockOp, Request, OpenFile, Dup, DupTo, CloseFd, Seek, Resize, Lk, Flock, Fork, Exit, Signal, Kill, Enter, Leave, Bail, Note, ProcState, Unborn, Live, Waiting, Ended, State, opening_state, with_lock, with_process, Settles, granted, Outcome, is_get, is_bad_argument, wanted_mode, permits, wanted_lock, CommandComesTo, LockComesTo, FlockTestComesTo, FlockOpComesTo, EndComesTo, KillOtherComesTo, may_enter, may_leave, marked, ComesTo, Step, AreMade, IsWhole}
+use Rattle.std.proofs.Common.{pred, length-set}
 use Rattle.std.proofs.lemmas.List.Folds.{find-append}
-use Rattle.std.proofs.lemmas.Bool.{cases_Bool}
-use Rattle.std.proofs.lemmas.Bool.Decides.{eqb_tells}
-use Rattle.std.proofs.lemmas.Option.{same_Some, slice_get_cases}
-use Rattle.range_core.specs.Facts.{MatchFact}
-use Rattle.range_core.specs.Resolving.{resolution}
-use Rattle.fd_table.specs.declared.Access.{Access}
-use Rattle.fd_table.specs.declared.tables.Look.{Look}
-use Rattle.fd_table.specs.Descriptors.{Descriptors, OpenFileDescription, SameDescriptors, opening_descriptors, description_numbered, look_at, with_description, with_descriptor, with_offset}
-use Rattle.wait_core.specs.declared.Policy.{Policy}
-use Rattle.wait_core.specs.declared.Wait.{Wait}
-use Rattle.wait_core.specs.WaitsView.{wait_of, without_wait_of}
-use Rattle.lock_manager.specs.declared.request.Rules.{Rules}
-use Rattle.lock_manager.specs.declared.request.Lock.{Lock}
-use Rattle.lock_manager.specs.declared.request.LkCmd.{LkCmd}
-use Rattle.lock_manager.specs.declared.request.LkCmd.TheVariants.{GetLk, SetLk, SetLkW, OGetLk, OSetLk, OSetLkW}
-use Rattle.lock_manager.specs.declared.request.FlockOp.{FlockOp}
-use Rattle.lock_manager.specs.declared.request.Request.{Request}
-use Rattle.lock_manager.specs.declared.request.Request.TheVariants.{OpenFile, Dup, DupTo, CloseFd, Seek, Resize, Lk, Flock, Fork, Exit, Signal, Kill, Enter, Leave, Bail}
-use Rattle.lock_manager.specs.declared.request.Note.{Note}
-use Rattle.lock_manager.specs.declared.request.ProcState.{ProcState}
-use Rattle.lock_manager.specs.declared.request.ProcState.TheVariants.{Unborn, Live, Waiting, Ended}
-use Rattle.lock_manager.specs.State.{State, opening_state, with_lock, with_process}
-use Rattle.lock_manager.specs.Settling.{Settles, granted}
-use Rattle.lock_manager.specs.Outcomes.{Outcome}
-use Rattle.lock_manager.specs.LockWords.{is_get, is_bad_argument, wanted_mode, permits, wanted_lock}
-use Rattle.lock_manager.specs.LockCommands.{CommandComesTo, LockComesTo}
-use Rattle.lock_manager.specs.FlockCalls.{FlockTestComesTo, FlockOpComesTo}
-use Rattle.lock_manager.specs.ProcessCalls.{EndComesTo, KillOtherComesTo}
-use Rattle.lock_manager.specs.Sections.{may_enter, may_leave, marked}
-use Rattle.lock_manager.specs.Step.{ComesTo, Step}
-use Rattle.lock_manager.specs.SomeOutcome.{AreMade, AreAwaitedIn, IsWhole}
+use Rattle.fd_table.specs.Descriptors.{with_description, with_offset}
+use Rattle.lock_manager.specs.SomeOutcome.{AreAwaitedIn}
 use Rattle.lock_manager.proofs.calls.ProcessCallLemmas.{other_found}
 
 -- descriptors that say the same refer to descriptions that were made

@@ -1,15 +1,9 @@
 -- A state that a manager stands for has what a step needs.
-use Rattle.std.proofs.Common.{rules, arith, ◌≡◌, ℕ, Option, Some, IsSome}
-use Rattle.std.proofs.lemmas.Grind.{common_steps}
-use Rattle.std.proofs.lemmas.Option.{same_Some}
-use Rattle.fd_table.specs.declared.tables.Tables.{Tables}
-use Rattle.fd_table.specs.Descriptors.{Descriptors, description_numbered}
-use Rattle.fd_table.specs.TablesView.{Numbered, IsSeen, StandFor, view_of}
+use Rattle.lock_manager.proofs.Common.{rules, arith, ◌≡◌, ℕ, Option, Some, IsSome, common_steps, same_Some, Tables, Descriptors, description_numbered, StandFor, State, machine_state, machine_waits, state_at, AreMade, IsWhole}
+use Rattle.fd_table.specs.TablesView.{Numbered, IsSeen, view_of}
 use Rattle.lock_manager.specs.declared.manager.Manager.{Manager}
-use Rattle.lock_manager.specs.State.{State}
-use Rattle.lock_manager.specs.MachineView.{machine_state, machine_waits}
-use Rattle.lock_manager.specs.ManagerView.{StandsFor, state_at, waits_of}
-use Rattle.lock_manager.specs.SomeOutcome.{AreMade, IsWhole, StepHasSomeOutcome}
+use Rattle.lock_manager.specs.ManagerView.{StandsFor, waits_of}
+use Rattle.lock_manager.specs.SomeOutcome.{StepHasSomeOutcome}
 use Rattle.lock_manager.proofs.some.SomeOutcomeLaws.{Step-some}
 use Rattle.lock_manager.proofs.some.StaysWholeLemmas.{whole_opening, step_whole}
 

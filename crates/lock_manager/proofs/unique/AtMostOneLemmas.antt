@@ -1,7 +1,6 @@
 -- Predicates that at most one value meets, and the choices by a fact and the chains that are made of them.
-use Rattle.std.proofs.Common.{arith, ◌≡◌, sym, ◌∙◌, subst, subst₂}
-use Rattle.std.proofs.lemmas.Grind.{common_steps}
-use Rattle.range_core.specs.Facts.{MatchFact}
+use Rattle.lock_manager.proofs.Common.{arith, ◌≡◌, sym, ◌∙◌, subst, common_steps, MatchFact}
+use Rattle.std.proofs.Common.{subst₂}
 
 -- at most one value meets the predicate
 abbrev pub AtMostOne : {A : Type 0} → (A → Type 0) → Type 0

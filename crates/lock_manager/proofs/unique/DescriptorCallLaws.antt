@@ -1,16 +1,11 @@
 -- What the calls on descriptors answer and leave is determined.
-use Rattle.std.proofs.lemmas.Grind.{common_steps}
-use Rattle.std.proofs.Common.{◌≡◌, ℕ, ◌==◌, Bool, true, false, MatchBool, Some, None, Result, Ok, Err, ℤ, pos, ◌<ℤ◌, sym, ◌∙◌, ap, arith, IsSome, subst}
+use Rattle.lock_manager.proofs.Common.{common_steps, ◌≡◌, ℕ, ◌==◌, Bool, true, false, MatchBool, Some, None, Result, Ok, Err, ℤ, sym, ◌∙◌, ap, arith, IsSome, subst, same_Some, cases_lt}
+use Rattle.lock_manager.proofs.Common.{Limits, FdFault, Released, AreReleased, nothing, Descriptors, OpenFileDescription, SameDescriptors, with_descriptor, without_descriptors, DupGives, DupToGives, CloseGives, EndGives, ForkGives, SeekGives, ResizeGives, OpenGives, Access}
+use Rattle.std.proofs.Common.{pos, ◌<ℤ◌}
 use Rattle.std.proofs.lemmas.Int.{ints}
-use Rattle.std.proofs.lemmas.Option.{same_Some}
-use Rattle.fd_table.specs.declared.Limits.{Limits}
-use Rattle.fd_table.specs.declared.FdFault.{FdFault}
-use Rattle.fd_table.specs.Releases.{Released, AreReleased, nothing}
-use Rattle.fd_table.specs.Descriptors.{Descriptors, OpenFileDescription, SameDescriptors, with_descriptor, without_descriptors, IsFull, IsLowestFree}
-use Rattle.fd_table.specs.Calls.{DupGives, DupToGives, CloseGives, EndGives, ForkGives, Refers, SeekGives, ResizeGives, OpenGives}
+use Rattle.fd_table.specs.Descriptors.{IsFull, IsLowestFree}
+use Rattle.fd_table.specs.Calls.{Refers}
 use Rattle.lock_manager.proofs.unique.ReleaseLaws.{closing-unique, same_everywhere, both_same}
-use Rattle.std.proofs.lemmas.Bool.{cases_lt}
-use Rattle.fd_table.specs.declared.Access.{Access}
 
 -- a descriptor that is open isn't free
 open_not_free : (D : Descriptors) (p fd : ℕ) → IsSome (D.description_of p fd) → D.description_of p fd ≡ None → ⊥

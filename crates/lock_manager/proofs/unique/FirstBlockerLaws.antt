@@ -1,13 +1,8 @@
 -- The lock that a get command reports is determined.
-use Rattle.std.proofs.lemmas.Grind.{common_steps}
-use Rattle.std.proofs.Common.{◌≡◌, ℕ, sym, ◌∙◌, arith}
+use Rattle.lock_manager.proofs.Common.{common_steps, ◌≡◌, ℕ, sym, ◌∙◌, arith, same_Some, Mode, Span, Owner, ByteModes, IsFirstBlocker}
 use Rattle.std.proofs.lemmas.Bool.{cases_order}
-use Rattle.std.proofs.lemmas.Option.{same_Some}
-use Rattle.range_core.specs.declared.Mode.{Mode}
-use Rattle.range_core.specs.declared.Span.{Span}
 use Rattle.range_core.specs.Ranges.{Modes, IsRun}
-use Rattle.lock_book.specs.declared.Owner.{Owner}
-use Rattle.lock_book.specs.Conflicts.{ByteModes, IsFirstBlocked, IsFirstBlocker}
+use Rattle.lock_book.specs.Conflicts.{IsFirstBlocked}
 use Rattle.lock_manager.proofs.unique.AtMostOneLemmas.{AtMostOne}
 
 -- the least byte that is blocked is one

@@ -1,35 +1,10 @@
 -- What a request comes to is determined, and so is the step.
-use Rattle.std.proofs.Common.{arith, rules, ◌≡◌, ℕ, ℤ, List, [], ◌∷◌, ◌==◌, Bool, true, false, Option, sym, ◌∙◌, Some, Result, MatchResult}
-use Rattle.std.proofs.lemmas.Grind.{common_steps}
-use Rattle.std.proofs.lemmas.Option.{same_Some}
-use Rattle.range_core.specs.declared.Mode.{Mode}
-use Rattle.fd_table.specs.declared.FdFault.{FdFault}
-use Rattle.fd_table.specs.declared.tables.Look.{Look}
-use Rattle.fd_table.specs.Descriptors.{Descriptors}
-use Rattle.fd_table.specs.Calls.{SeekGives, ResizeGives, EndGives}
-use Rattle.wait_core.specs.declared.Wait.{Wait}
-use Rattle.wait_core.specs.Blocking.{IsBlockedByLock, IsBlocked}
-use Rattle.wait_core.specs.WaitsView.{wait_of}
-use Rattle.lock_manager.specs.declared.request.Rules.{Rules}
-use Rattle.lock_manager.specs.declared.request.Lock.{Lock}
-use Rattle.lock_manager.specs.declared.request.LkCmd.{LkCmd}
-use Rattle.lock_manager.specs.declared.request.LkCmd.TheVariants.{GetLk, SetLk, SetLkW, OGetLk, OSetLk, OSetLkW}
-use Rattle.lock_manager.specs.declared.request.Request.{Request}
-use Rattle.lock_manager.specs.declared.request.Request.TheVariants.{OpenFile, Dup, DupTo, CloseFd, Seek, Resize, Lk, Flock, Fork, Exit, Signal, Kill, Enter, Leave, Bail}
+use Rattle.lock_manager.proofs.Common.{arith, rules, ◌≡◌, ℕ, ℤ, List, [], ◌∷◌, ◌==◌, Bool, true, false, Option, sym, ◌∙◌, Some, Result, MatchResult, common_steps, same_Some}
+use Rattle.lock_manager.proofs.Common.{Mode, FdFault, Look, Descriptors, SeekGives, ResizeGives, EndGives, Wait, IsBlockedByLock, IsBlocked, wait_of, Rules, Lock, LkCmd, GetLk, SetLk, SetLkW, OGetLk, OSetLk, OSetLkW, Request, OpenFile, Dup, DupTo, CloseFd, Seek, Resize, Lk, Flock, Fork, Exit, Signal, Kill, Enter, Leave, Bail, ProcState, Unborn, Live, Waiting, Ended, State, locks_held, Outcome, answered, IsRefusal, Note, Answer, GetComesTo, CommandComesTo, LockComesTo, FlockOp, FlockTestComesTo, FlockModeComesTo, FlockComesTo, EndComesTo, SignalComesTo, KillOtherComesTo, may_enter, may_leave, ComesTo}
 use Rattle.lock_manager.specs.declared.request.Reply.TheVariants as replies
-use Rattle.lock_manager.specs.declared.request.ProcState.{ProcState}
-use Rattle.lock_manager.specs.declared.request.ProcState.TheVariants.{Unborn, Live, Waiting, Ended}
-use Rattle.lock_manager.specs.State.{State, locks_held}
-use Rattle.lock_manager.specs.Outcomes.{Outcome, answered, IsRefusal}
-use Rattle.lock_manager.specs.declared.request.Note.{Note}
-use Rattle.lock_manager.specs.declared.request.Note.TheVariants.{Answer}
 use Rattle.lock_manager.specs.DescriptorCalls.{SeekComesTo, ResizeComesTo}
-use Rattle.lock_manager.specs.LockCommands.{GetComesTo, SetComesTo, SetOrWaitComesTo, WaitOrDeadlockComesTo, CommandComesTo, LockComesTo}
-use Rattle.lock_manager.specs.declared.request.FlockOp.{FlockOp}
-use Rattle.lock_manager.specs.FlockCalls.{FlockTestComesTo, FlockModeComesTo, FlockComesTo}
-use Rattle.lock_manager.specs.ProcessCalls.{EndComesTo, SignalComesTo, KillOtherComesTo, KillComesTo}
-use Rattle.lock_manager.specs.Sections.{may_enter, may_leave}
-use Rattle.lock_manager.specs.Step.{ComesTo}
+use Rattle.lock_manager.specs.LockCommands.{SetComesTo, SetOrWaitComesTo, WaitOrDeadlockComesTo}
+use Rattle.lock_manager.specs.ProcessCalls.{KillComesTo}
 use Rattle.lock_manager.specs.OneOutcome.{StepHasOneOutcome}
 use Rattle.lock_manager.proofs.unique.AtMostOneLemmas.{AtMostOne, one_value, MatchFact-unique, by_one, by_two}
 use Rattle.lock_manager.proofs.ChoiceLemmas.{MatchBool-by, MatchResult-by, LockComesTo-by, FlockComesTo-by}

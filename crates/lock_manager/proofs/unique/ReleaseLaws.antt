@@ -1,9 +1,8 @@
 -- What the closing of descriptors releases is determined.
-use Rattle.std.proofs.lemmas.Grind.{common_steps}
-use Rattle.std.proofs.Common.{◌≡◌, ℕ, zero, suc, ◌<◌, List, [], ◌∷◌, Contains, AllPairs, refl, sym, subst, ◌⊎◌, inl, inr, Bool, arith, ◌∙◌}
+use Rattle.lock_manager.proofs.Common.{common_steps, ◌≡◌, ℕ, zero, suc, ◌<◌, List, [], ◌∷◌, Contains, refl, sym, subst, ◌⊎◌, inl, inr, Bool, arith, ◌∙◌, Released, ClosesFile, AreReleased, Descriptors, SameDescriptors}
+use Rattle.std.proofs.Common.{AllPairs}
 use Rattle.std.proofs.lemmas.List.Kept.{AllPairs-from_increasing}
-use Rattle.fd_table.specs.Releases.{Released, AreExactly, ClosesFile, ClosesDescription, AreReleased}
-use Rattle.fd_table.specs.Descriptors.{Descriptors, SameDescriptors}
+use Rattle.fd_table.specs.Releases.{AreExactly, ClosesDescription}
 
 -- descriptors that say the same at each place are the same
 pub same_everywhere : (D E : Descriptors) → SameDescriptors D E → D ≡ E

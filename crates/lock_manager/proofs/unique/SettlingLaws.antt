@@ -1,13 +1,5 @@
 -- Settling is determined: one list of grants, and one state.
-use Rattle.std.proofs.Common.{◌≡◌, refl, sym, ◌∙◌, subst, List, [], ◌∷◌, ◌++◌, append_assoc, append-nil, arith}
-use Rattle.std.proofs.lemmas.Grind.{common_steps}
-use Rattle.wait_core.specs.declared.Policy.{Policy}
-use Rattle.lock_manager.specs.declared.request.Note.{Note}
-use Rattle.lock_manager.specs.State.{State, locks_held}
-use Rattle.lock_manager.specs.Settling.{Settles, granted}
-use Rattle.wait_core.specs.declared.Wait.{Wait}
-use Rattle.wait_core.specs.Locks.{Locks}
-use Rattle.wait_core.specs.Blocking.{IsBlocked, AllBlocked, IsNextBetween}
+use Rattle.lock_manager.proofs.Common.{◌≡◌, refl, sym, ◌∙◌, subst, List, [], ◌∷◌, ◌++◌, append_assoc, append-nil, arith, common_steps, Policy, Note, State, locks_held, Settles, granted, Wait, Locks, IsBlocked, AllBlocked, IsNextBetween}
 
 still_blocked : (policy : Policy) (locks : Locks) (earlier : List Wait) (wait : Wait) → IsBlocked policy locks earlier wait
     → IsBlocked policy locks (earlier ++ []) wait

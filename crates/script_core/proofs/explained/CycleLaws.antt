@@ -1,24 +1,13 @@
 -- The steps that tell a cycle are determined, where no two waits are of one process.
-use Rattle.std.proofs.Common.{arith, rules, ◌≡◌, ◌≢◌, ℕ, zero, suc, ◌<◌, ◌≤◌, ◌⊎◌, inl, inr, true, false, IsTrue, Option, Some, None, List, [], ◌∷◌, ◌++◌, All, Any, length, take, slice_get, refl, sym, ap, ◌∙◌, subst}
-use Rattle.std.proofs.lemmas.Grind.{common_steps}
+use Rattle.script_core.proofs.Common.{arith, rules, ◌≡◌, ◌≢◌, ℕ, zero, suc, ◌<◌, ◌≤◌, ◌⊎◌, inl, inr, true, false, IsTrue, Option, Some, None, List, [], ◌∷◌, ◌++◌, All, Any, length, take, slice_get, refl, sym, ap, ◌∙◌, subst, common_steps, All-head, All-tail, Held, LocksHaveOneReport, mode_in, flock_mode_in, Policy, Wait, InTheWay, State, locks_held, Event, Link, Wanted, IsLockAgainst, IsWaitAgainst, IsCycle}
 use Rattle.std.proofs.lemmas.Bool.{cases_order}
-use Rattle.std.proofs.lemmas.List.Elements.{All-head, All-tail}
 use Rattle.std.specs.List.{AllByRecursion as Each}
-use Rattle.lock_book.specs.declared.Held.{Held}
-use Rattle.lock_book.specs.OneReport.{LocksHaveOneReport}
-use Rattle.lock_book.specs.Changes.{mode_in, flock_mode_in}
-use Rattle.wait_core.specs.declared.Policy.{Policy}
-use Rattle.wait_core.specs.declared.Wait.{Wait}
-use Rattle.lock_manager.specs.declared.request.InTheWay.{InTheWay}
 use Rattle.lock_manager.specs.declared.request.InTheWay.TheVariants as obstacles
 use Rattle.wait_core.specs.Cycles.{IsBlockedByProcess, WaitsFor}
-use Rattle.lock_manager.specs.State.{State, locks_held}
 use Rattle.lock_manager.specs.Asking.{IsFirstOf}
-use Rattle.session_core.specs.Event.{Event}
-use Rattle.script_core.specs.declared.deadlock.Link.{Link}
 use Rattle.script_core.specs.declared.deadlock.Start.{Start}
-use Rattle.script_core.specs.declared.deadlock.Start.TheVariants.{Wanted, Waiting}
-use Rattle.script_core.specs.Deadlocks.{IsLockAgainst, IsWaitAgainst, IsStepTo, IsLinkAt, IsLink, AreLinks, IsCycle, IsLess, TellsCycle}
+use Rattle.script_core.specs.declared.deadlock.Start.TheVariants.{Waiting}
+use Rattle.script_core.specs.Deadlocks.{IsStepTo, IsLinkAt, IsLink, AreLinks, IsLess, TellsCycle}
 use Rattle.script_core.specs.Explaining.{TellsDeadlock}
 use Rattle.script_core.proofs.FitLemmas.{AreApart}
 use Rattle.script_core.proofs.DeadlockLemmas.{first_any}

@@ -1,21 +1,7 @@
 -- The locks that a closing removes are the report of the locks at the places that it takes, so they are determined.
-use Rattle.std.proofs.Common.{arith, ◌≡◌, ◌≢◌, ℕ, ◌<◌, ◌==◌, ◌&&◌, not, Bool, true, false, MatchOption, Option, Some, None, option_map, option_to_list, List, [], ◌++◌, map, refl, sym, ap, ◌∙◌, subst, append-nil, append_assoc, eq-eqb, ne_eqb}
-use Rattle.std.proofs.lemmas.Grind.{common_steps}
-use Rattle.range_core.specs.Ranges.{Modes, AreRuns}
-use Rattle.fd_table.specs.declared.tables.Look.{Look}
-use Rattle.fd_table.specs.Descriptors.{look_at}
-use Rattle.lock_book.specs.declared.Held.{Held}
-use Rattle.lock_book.specs.declared.Owner.{Owner}
-use Rattle.lock_book.specs.declared.Owner.TheVariants.{Process, Description}
-use Rattle.lock_book.specs.Changes.{mode_in, flock_mode_in}
-use Rattle.lock_book.specs.Conflicts.{ByteModes, FlockModes}
-use Rattle.lock_book.specs.OneReport.{LocksHaveOneReport}
-use Rattle.lock_book.specs.Reports.{IsFileReport, IsHeldReport}
-use Rattle.lock_manager.specs.State.{State}
-use Rattle.script_core.specs.declared.losses.Closing.{Closing}
-use Rattle.script_core.specs.declared.losses.Closing.TheVariants.{Nothing, OneOf, AllOf}
-use Rattle.script_core.specs.Files.{IsWithinFiles}
-use Rattle.script_core.specs.Losses.{byte_line, flock_line, stays_open, is_released, AreReleasedBy, AreReleased}
+use Rattle.script_core.proofs.Common.{arith, ◌≡◌, ◌≢◌, ℕ, ◌<◌, ◌==◌, ◌&&◌, not, Bool, true, false, MatchOption, Option, Some, None, option_map, option_to_list, List, [], ◌++◌, map, refl, sym, ap, ◌∙◌, subst, append-nil, append_assoc, eq-eqb, ne_eqb, common_steps}
+use Rattle.script_core.proofs.Common.{Modes, AreRuns, Look, look_at, Held, Owner, Process, Description, mode_in, flock_mode_in, ByteModes, FlockModes, LocksHaveOneReport, IsFileReport, IsHeldReport, State, Closing, Nothing, OneOf, AllOf, IsWithinFiles, byte_line, flock_line, stays_open}
+use Rattle.script_core.specs.Losses.{is_released, AreReleasedBy, AreReleased}
 use Rattle.script_core.proofs.FilesLemmas.{look_file}
 use Rattle.script_core.proofs.explained.ReportPlaceLemmas.{PlaceTest, bytes_at, flocks_at, report_left, file_reported, none_reported, both_bytes, one_flock}
 

@@ -1,29 +1,13 @@
 -- What is the first in the way of an event's request is determined.
-use Rattle.std.proofs.Common.{arith, rules, ◌≡◌, ◌≢◌, ℕ, ◌≤◌, ◌⊎◌, inl, inr, IsTrue, Option, Some, None, List, refl, sym, ap, ◌∙◌, subst}
-use Rattle.std.proofs.lemmas.Grind.{common_steps}
+use Rattle.script_core.proofs.Common.{arith, rules, ◌≡◌, ◌≢◌, ℕ, ◌≤◌, ◌⊎◌, inl, inr, IsTrue, Option, Some, None, List, refl, sym, ap, ◌∙◌, subst, common_steps, same_Some, Mode, Span, Modes, Held, Owner, Process, Description, ByteModes, FlockModes, Family, Bytes, Whole, Policy, Wait, IsBlocked, Locks, InTheWay, Rules, State, locks_held, Event}
 use Rattle.std.proofs.lemmas.Bool.{cases_order}
-use Rattle.std.proofs.lemmas.Option.{same_Some}
-use Rattle.range_core.specs.declared.Mode.{Mode}
-use Rattle.range_core.specs.declared.Span.{Span}
-use Rattle.range_core.specs.Ranges.{Modes, IsRun, HeldConflicts}
+use Rattle.range_core.specs.Ranges.{IsRun, HeldConflicts}
 use Rattle.lock_book.specs.declared.Blocker.{Blocker}
-use Rattle.lock_book.specs.declared.Held.{Held}
-use Rattle.lock_book.specs.declared.Owner.{Owner}
-use Rattle.lock_book.specs.declared.Owner.TheVariants.{Process, Description}
-use Rattle.lock_book.specs.Conflicts.{ByteModes, FlockModes, IsFirstBlocked, IsFirstBlocker}
-use Rattle.wait_core.specs.declared.Family.{Family}
-use Rattle.wait_core.specs.declared.Family.TheVariants.{Bytes, Whole}
-use Rattle.wait_core.specs.declared.Policy.{Policy}
+use Rattle.lock_book.specs.Conflicts.{IsFirstBlocked, IsFirstBlocker}
 use Rattle.wait_core.specs.declared.Policy.TheVariants as policies
-use Rattle.wait_core.specs.declared.Wait.{Wait}
-use Rattle.wait_core.specs.Blocking.{IsBlockedIn, IsBlockedByLock, IsBlocked, WaitsConflict}
-use Rattle.wait_core.specs.Locks.{Locks}
-use Rattle.lock_manager.specs.declared.request.InTheWay.{InTheWay}
+use Rattle.wait_core.specs.Blocking.{IsBlockedIn, IsBlockedByLock, WaitsConflict}
 use Rattle.lock_manager.specs.declared.request.InTheWay.TheVariants as obstacles
-use Rattle.lock_manager.specs.declared.request.Rules.{Rules}
-use Rattle.lock_manager.specs.State.{State, locks_held}
 use Rattle.lock_manager.specs.Asking.{IsFirstByteLock, IsFirstFlock, IsFirstLockOf, IsFirstInTheWay}
-use Rattle.session_core.specs.Event.{Event}
 use Rattle.script_core.specs.Explaining.{StandsInTheWay}
 use Rattle.script_core.proofs.DeadlockLemmas.{first_any}
 use Rattle.script_core.proofs.ExplainLemmas.{asks_once}

@@ -1,28 +1,8 @@
 -- What explains a run, and a script, is one text.
-use Rattle.std.proofs.Common.{arith, rules, ◌≡◌, ℕ, ◌+◌, Ok, List, [], ◌∷◌, ◌++◌, length, refl, sym, ap, ◌∙◌, subst}
-use Rattle.std.proofs.lemmas.Grind.{common_steps}
-use Rattle.fd_table.specs.Descriptors.{descriptor_limit}
-use Rattle.lock_book.specs.declared.Held.{Held}
-use Rattle.lock_book.specs.OneReport.{LocksHaveOneReport}
-use Rattle.lock_manager.specs.declared.request.InTheWay.{InTheWay}
-use Rattle.lock_manager.specs.declared.request.Rules.{Rules}
-use Rattle.lock_manager.specs.State.{State, opening_state}
-use Rattle.lock_manager.specs.OneOutcome.{StepHasOneOutcome}
+use Rattle.script_core.proofs.Common.{arith, rules, ◌≡◌, ℕ, ◌+◌, Ok, List, [], ◌∷◌, ◌++◌, length, refl, sym, ap, ◌∙◌, subst, common_steps, descriptor_limit, Held, LocksHaveOneReport, InTheWay, Rules, State, opening_state, StepHasOneOutcome, Event, requests_sent, IsStep, Link, States, entry_line, Meaning, processes_in, IsReport, IsWithinFiles, closed_by, lost, TellsState, Explains, ExplainsRun, untaken_lines}
 use Rattle.session_core.specs.Draining.{IsDrain}
-use Rattle.session_core.specs.Event.{Event}
-use Rattle.session_core.specs.Mail.{requests_sent}
 use Rattle.session_core.specs.OneDrain.{ArrivalsHaveOneDrain}
-use Rattle.session_core.specs.Runs.{IsStep}
-use Rattle.script_core.specs.declared.deadlock.Link.{Link}
-use Rattle.script_core.specs.declared.states.States.{States}
-use Rattle.script_core.specs.EntryText.{entry_line}
-use Rattle.script_core.specs.ScriptText.{Meaning}
-use Rattle.script_core.specs.Output.{processes_in}
-use Rattle.script_core.specs.ReportText.{IsReport}
-use Rattle.script_core.specs.Files.{IsWithinFiles}
-use Rattle.script_core.specs.Losses.{closed_by, lost}
-use Rattle.script_core.specs.StateText.{TellsState}
-use Rattle.script_core.specs.Explaining.{Explains, ExplainsRun, IsExplained, untaken_lines, RunsHaveOneExplanation, ScriptsHaveOneExplanation}
+use Rattle.script_core.specs.Explaining.{IsExplained, RunsHaveOneExplanation, ScriptsHaveOneExplanation}
 use Rattle.script_core.proofs.FilesLemmas.{opening_files, step_files}
 use Rattle.script_core.proofs.OutputLaws.{one_meaning, one_report}
 use Rattle.script_core.proofs.explained.CycleLaws.{TellsDeadlock-unique}

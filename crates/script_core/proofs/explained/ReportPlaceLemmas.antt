@@ -1,19 +1,11 @@
 -- The report of the locks at some places alone: of some owners on some files, byte locks and flock locks apart.
-use Rattle.std.proofs.Common.{arith, ◌≡◌, ◌≢◌, ℕ, zero, suc, ◌+◌, ◌<◌, ◌≤◌, ◌⊎◌, inl, inr, Bool, true, false, IsFalse, if◌then◌else◌, Option, Some, None, option_map, option_to_list, List, [], ◌∷◌, ◌++◌, All, Any, map, get_or, refl, sym, ap, ◌∙◌, subst, append-nil}
-use Rattle.std.proofs.lemmas.Grind.{common_steps}
+use Rattle.script_core.proofs.Common.{arith, ◌≡◌, ◌≢◌, ℕ, zero, suc, ◌+◌, ◌<◌, ◌≤◌, ◌⊎◌, inl, inr, Bool, true, false, IsFalse, if◌then◌else◌, Option, Some, None, option_map, option_to_list, List, [], ◌∷◌, ◌++◌, All, Any, map, get_or, refl, sym, ap, ◌∙◌, subst, append-nil, common_steps, cases_eq, cases_lt, All-append, All-head, All-nil, All-tail, filter-append}
+use Rattle.script_core.proofs.Common.{Mode, Span, Modes, Covers, AreRuns, Held, Owner, Process, Description, ByteModes, FlockModes, AreFlockLocks, IsFlockLine, IsFileReport, AreFileReports, IsHeldReport, byte_line, flock_line}
 use Rattle.std.specs.List.{AllPairs, filter}
-use Rattle.std.proofs.lemmas.Bool.{cases_eq, cases_lt}
-use Rattle.std.proofs.lemmas.List.Elements.{All-append, All-cons, All-filter, All-head, All-map, All-nil, All-tail, filter-append}
-use Rattle.range_core.specs.declared.Mode.{Mode}
-use Rattle.range_core.specs.declared.Span.{Span}
-use Rattle.range_core.specs.Ranges.{Modes, Covers, IsRun, AreRuns}
-use Rattle.lock_book.specs.declared.Held.{Held}
-use Rattle.lock_book.specs.declared.Owner.{Owner}
-use Rattle.lock_book.specs.declared.Owner.TheVariants.{Process, Description}
-use Rattle.lock_book.specs.Conflicts.{ByteModes, FlockModes}
+use Rattle.std.proofs.lemmas.List.Elements.{All-cons, All-filter, All-map}
+use Rattle.range_core.specs.Ranges.{IsRun}
 use Rattle.lock_book.specs.Owners.{IsBefore}
-use Rattle.lock_book.specs.Reports.{AreByteLocks, AreFlockLocks, IsFlockLine, IsFileReport, AreFileReports, IsHeldReport}
-use Rattle.script_core.specs.Losses.{byte_line, flock_line}
+use Rattle.lock_book.specs.Reports.{AreByteLocks}
 use Rattle.script_core.proofs.DeadlockLocksLemmas.{any_left, any_right}
 
 -- a test of a place: whether of flock locks, on which file and of which owner

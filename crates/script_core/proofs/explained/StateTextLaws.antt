@@ -1,15 +1,7 @@
 -- What is told of a state, or of what changed, is determined.
-use Rattle.std.proofs.Common.{arith, rules, ◌≡◌, ℕ, ◌==◌, Bool, true, false, MatchBool, List, [], ◌∷◌, ◌++◌, refl, sym, ap, ◌∙◌, subst}
-use Rattle.std.proofs.lemmas.Grind.{common_steps}
-use Rattle.fd_table.specs.Descriptors.{descriptor_limit}
-use Rattle.lock_book.specs.Changes.{mode_in, flock_mode_in}
-use Rattle.lock_book.specs.OneReport.{LocksHaveOneReport}
-use Rattle.lock_manager.specs.declared.request.Rules.{Rules}
-use Rattle.lock_manager.specs.State.{State}
-use Rattle.script_core.specs.declared.state_lines.StateLine.{StateLine}
-use Rattle.script_core.specs.declared.states.States.{States}
+use Rattle.script_core.proofs.Common.{arith, rules, ◌≡◌, ℕ, ◌==◌, Bool, true, false, MatchBool, List, [], ◌∷◌, ◌++◌, refl, sym, ap, ◌∙◌, subst, common_steps, descriptor_limit, mode_in, flock_mode_in, LocksHaveOneReport, Rules, State, StateLine, States, AreStateLines, IsStateText, IsChangesText, TellsState}
 use Rattle.script_core.specs.declared.states.States.TheVariants as places
-use Rattle.script_core.specs.StateText.{AreStateLines, IsStateText, AreMissing, IsChangesText, AreToldAgainst, TellsState}
+use Rattle.script_core.specs.StateText.{AreMissing, AreToldAgainst}
 
 AreStateLines-unique : LocksHaveOneReport → (processes descriptors : ℕ) (S : State) (told others : List StateLine)
     → AreStateLines processes descriptors S told → AreStateLines processes descriptors S others → told ≡ others

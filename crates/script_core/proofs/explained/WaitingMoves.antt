@@ -1,39 +1,9 @@
 -- Each wait is of another process, which waits, and each step keeps that.
-use Rattle.std.proofs.Common.{arith, rules, ◌≡◌, ◌≢◌, ℕ, ◌==◌, ◌||◌, Bool, true, false, ⊎_elim, List, [], ◌∷◌, ◌++◌, Option, refl, sym, ◌∙◌, subst, eq-eqb, if◌then◌else◌, ℤ}
-use Rattle.std.proofs.lemmas.Grind.{common_steps}
-use Rattle.std.proofs.lemmas.Bool.{cases_eq}
+use Rattle.script_core.proofs.Common.{arith, rules, ◌≡◌, ◌≢◌, ℕ, ◌==◌, ◌||◌, Bool, true, false, ⊎_elim, List, [], ◌∷◌, ◌++◌, Option, refl, sym, ◌∙◌, subst, eq-eqb, if◌then◌else◌, ℤ, common_steps, cases_eq}
+use Rattle.script_core.proofs.Common.{Mode, resolution, Access, FdFault, Look, look_at, opening_descriptors, Policy, Wait, Rules, Lock, LkCmd, GetLk, SetLk, SetLkW, OGetLk, OSetLk, OSetLkW, FlockOp, Note, Reply, Request, OpenFile, Dup, DupTo, CloseFd, Seek, Resize, Lk, Flock, Fork, Exit, Signal, Kill, Enter, Leave, Bail, ProcState, Unborn, Live, Waiting, Ended, State, opening_state, with_process, with_lock, Settles, granted, Outcome, IsRefusal, answered_then, waits_then, with_released, OpenComesTo, DupComesTo, DupToComesTo, CloseComesTo, SeekComesTo, ResizeComesTo, is_get, is_bad_argument, wanted_mode, permits, wanted_lock, held_reply, GetComesTo, SetComesTo, CommandComesTo, DescribedComesTo, FlockTestComesTo, FlockModeComesTo, FlockOpComesTo, ForkComesTo, EndComesTo, SignalComesTo, KillOtherComesTo, without_wait, may_enter, may_leave, marked, ComesTo, Step}
 use Rattle.std.specs.List.{AllByRecursion as Each}
-use Rattle.range_core.specs.declared.Mode.{Mode}
-use Rattle.range_core.specs.Resolving.{resolution}
-use Rattle.fd_table.specs.declared.Access.{Access}
-use Rattle.fd_table.specs.declared.FdFault.{FdFault}
-use Rattle.fd_table.specs.declared.tables.Look.{Look}
-use Rattle.fd_table.specs.Descriptors.{look_at, opening_descriptors}
-use Rattle.wait_core.specs.declared.Policy.{Policy}
-use Rattle.wait_core.specs.declared.Wait.{Wait}
 use Rattle.wait_core.specs.WaitsView.{without_wait_of}
-use Rattle.lock_manager.specs.declared.request.Rules.{Rules}
-use Rattle.lock_manager.specs.declared.request.Lock.{Lock}
-use Rattle.lock_manager.specs.declared.request.LkCmd.{LkCmd}
-use Rattle.lock_manager.specs.declared.request.LkCmd.TheVariants.{GetLk, SetLk, SetLkW, OGetLk, OSetLk, OSetLkW}
-use Rattle.lock_manager.specs.declared.request.FlockOp.{FlockOp}
-use Rattle.lock_manager.specs.declared.request.Note.{Note}
-use Rattle.lock_manager.specs.declared.request.Reply.{Reply}
 use Rattle.lock_manager.specs.declared.request.Reply.TheVariants as replies
-use Rattle.lock_manager.specs.declared.request.Request.{Request}
-use Rattle.lock_manager.specs.declared.request.Request.TheVariants.{OpenFile, Dup, DupTo, CloseFd, Seek, Resize, Lk, Flock, Fork, Exit, Signal, Kill, Enter, Leave, Bail}
-use Rattle.lock_manager.specs.declared.request.ProcState.{ProcState}
-use Rattle.lock_manager.specs.declared.request.ProcState.TheVariants.{Unborn, Live, Waiting, Ended}
-use Rattle.lock_manager.specs.State.{State, opening_state, with_process, with_lock}
-use Rattle.lock_manager.specs.Settling.{Settles, granted}
-use Rattle.lock_manager.specs.Outcomes.{Outcome, IsRefusal, answered_then, waits_then}
-use Rattle.lock_manager.specs.DescriptorCalls.{with_released, OpenComesTo, DupComesTo, DupToComesTo, CloseComesTo, SeekComesTo, ResizeComesTo}
-use Rattle.lock_manager.specs.LockWords.{is_get, is_bad_argument, wanted_mode, permits, wanted_lock, held_reply}
-use Rattle.lock_manager.specs.LockCommands.{GetComesTo, SetComesTo, CommandComesTo, DescribedComesTo}
-use Rattle.lock_manager.specs.FlockCalls.{FlockTestComesTo, FlockModeComesTo, FlockOpComesTo}
-use Rattle.lock_manager.specs.ProcessCalls.{ForkComesTo, EndComesTo, SignalComesTo, KillOtherComesTo, without_wait}
-use Rattle.lock_manager.specs.Sections.{may_enter, may_leave, marked}
-use Rattle.lock_manager.specs.Step.{ComesTo, Step}
 use Rattle.script_core.proofs.FitLemmas.{AreApart, SameProcesses, each_append, each_map, each_both, each_middle, apart_middle, apart_push, same_locked, marked_same}
 use Rattle.script_core.proofs.OutcomeFitLemmas.{by_bool, each_other, others_left, apart_left, same_all, same_but, same_released, moved_alive}
 use Rattle.script_core.proofs.DeadlockStepLemmas.{if_option, if_result}

@@ -1,25 +1,10 @@
 -- What a closing leaves: at the places that it takes nobody has a lock, at each other place who had one has it still, and each lock and
 -- wait that is left is of an owner that has the file open.
-use Rattle.std.proofs.Common.{arith, ◌≡◌, ◌≢◌, ℕ, ◌≤◌, ◌==◌, ◌&&◌, not, Bool, true, false, if◌then◌else◌, Option, Some, None, option_map, List, refl, sym, ap, ◌∙◌, subst, eq-eqb}
-use Rattle.std.proofs.lemmas.Grind.{common_steps}
+use Rattle.script_core.proofs.Common.{arith, ◌≡◌, ◌≢◌, ℕ, ◌≤◌, ◌==◌, ◌&&◌, not, Bool, true, false, if◌then◌else◌, Option, Some, None, option_map, List, refl, sym, ap, ◌∙◌, subst, eq-eqb, common_steps, and_from, and_parts, eqb-true, false_from_ne_true}
+use Rattle.script_core.proofs.Common.{OFFMAX, Mode, Look, Descriptors, OpenFileDescription, description_numbered, look_at, look_of, Released, Owner, Process, Description, whole_file, mode_in, flock_mode_in, Wait, State, with_released, HasOpenOn, Closing, Nothing, OneOf, AllOf, closes, keeps, is_alive, stays_open}
 use Rattle.std.specs.List.{AllByRecursion as Each}
-use Rattle.std.proofs.lemmas.Bool.{and_from, and_parts, eqb-true, false_from_ne_true, not-true}
-use Rattle.range_core.specs.declared.TheConstants.{OFFMAX}
-use Rattle.range_core.specs.declared.Mode.{Mode}
+use Rattle.std.proofs.lemmas.Bool.{not-true}
 use Rattle.range_core.specs.Changes.{is_covered}
-use Rattle.fd_table.specs.declared.tables.Look.{Look}
-use Rattle.fd_table.specs.Descriptors.{Descriptors, OpenFileDescription, description_numbered, look_at, look_of}
-use Rattle.fd_table.specs.Releases.{Released}
-use Rattle.lock_book.specs.declared.Owner.{Owner}
-use Rattle.lock_book.specs.declared.Owner.TheVariants.{Process, Description}
-use Rattle.lock_book.specs.Changes.{whole_file, mode_in, flock_mode_in}
-use Rattle.wait_core.specs.declared.Wait.{Wait}
-use Rattle.lock_manager.specs.State.{State}
-use Rattle.lock_manager.specs.DescriptorCalls.{with_released}
-use Rattle.lock_manager.specs.DescriptionLocks.{HasOpenOn}
-use Rattle.script_core.specs.declared.losses.Closing.{Closing}
-use Rattle.script_core.specs.declared.losses.Closing.TheVariants.{Nothing, OneOf, AllOf}
-use Rattle.script_core.specs.Losses.{closes, keeps, is_alive, stays_open}
 use Rattle.script_core.proofs.FitLemmas.{each_both}
 use Rattle.script_core.proofs.explained.LossLaws.{goes_by, goes_with}
 use Rattle.script_core.proofs.gone.GoneLaws.{Leaves, some_of}

@@ -1,25 +1,12 @@
 -- What a call on descriptors keeps: each descriptor and each description's file, or all but those that it closes.
-use Rattle.std.proofs.Common.{arith, rules, ne_eqb, ◌≡◌, ◌≢◌, ℕ, zero, suc, pred, ◌+◌, ◌<◌, ◌≤◌, ◌==◌, ◌&&◌, ◌⊎◌, inl, inr, Bool, true, false, if◌then◌else◌, Option, Some, None, option_map, Ok, List, [], ◌∷◌, ◌++◌, length, slice_get, refl, sym, ap, ◌∙◌, subst, eq-eqb, ℤ, get_or-set_same, get_or-set_other, length-set}
-use Rattle.std.proofs.lemmas.Grind.{common_steps}
+use Rattle.script_core.proofs.Common.{arith, rules, ne_eqb, ◌≡◌, ◌≢◌, ℕ, zero, suc, ◌+◌, ◌<◌, ◌≤◌, ◌==◌, ◌&&◌, ◌⊎◌, inl, inr, Bool, true, false, if◌then◌else◌, Option, Some, None, option_map, Ok, List, [], ◌∷◌, ◌++◌, length, slice_get, refl, sym, ap, ◌∙◌, subst, eq-eqb, ℤ, common_steps, and_from, and_parts, cases_Bool, cases_eq, eqb-true, same_Some, slice_get_within}
+use Rattle.script_core.proofs.Common.{Access, Limits, Descriptors, OpenFileDescription, SameDescriptors, description_numbered, descriptor_limit, with_descriptor, Released, AreReleased, nothing, Owner, Process, Description, mode_in, flock_mode_in, ProcState, State, HasOpenOn, Closing, Nothing, OneOf, AllOf, closes, is_alive}
+use Rattle.std.proofs.Common.{pred, get_or-set_same, get_or-set_other, length-set}
 use Rattle.std.specs.Prelude.{slice_set, Contains}
 use Rattle.std.specs.List.{AllByRecursion as Each}
 use Rattle.std.specs.List.Sorted.{IsStrictlyIncreasing}
-use Rattle.std.proofs.lemmas.Bool.{and_from, and_parts, cases_Bool, cases_eq, eqb-true}
-use Rattle.std.proofs.lemmas.Option.{same_Some, slice_get_cases, slice_get_within, slice_get_read}
-use Rattle.fd_table.specs.declared.Access.{Access}
-use Rattle.fd_table.specs.declared.Limits.{Limits}
+use Rattle.std.proofs.lemmas.Option.{slice_get_cases, slice_get_read}
 use Rattle.fd_table.specs.Calls.{OpenGives, DupGives, CloseGives, EndGives, SeekGives, ResizeGives}
-use Rattle.fd_table.specs.Descriptors.{Descriptors, OpenFileDescription, SameDescriptors, description_numbered, descriptor_limit, with_descriptor}
-use Rattle.fd_table.specs.Releases.{Released, AreReleased, nothing}
-use Rattle.lock_book.specs.declared.Owner.{Owner}
-use Rattle.lock_book.specs.declared.Owner.TheVariants.{Process, Description}
-use Rattle.lock_book.specs.Changes.{mode_in, flock_mode_in}
-use Rattle.lock_manager.specs.declared.request.ProcState.{ProcState}
-use Rattle.lock_manager.specs.State.{State}
-use Rattle.lock_manager.specs.DescriptionLocks.{HasOpenOn}
-use Rattle.script_core.specs.declared.losses.Closing.{Closing}
-use Rattle.script_core.specs.declared.losses.Closing.TheVariants.{Nothing, OneOf, AllOf}
-use Rattle.script_core.specs.Losses.{closes, is_alive}
 use Rattle.script_core.proofs.FitLemmas.{each_map}
 use Rattle.script_core.proofs.gone.HolderMoves.{HasOpen, MayHold, IsHolding, IsOpening, AreHeld}
 use Rattle.script_core.proofs.gone.ReleaseMoves.{IsOnFile, StaysOpen, IsClosing}

@@ -1,41 +1,9 @@
 -- The locks that an event releases and those that it loses are the difference of the reports before and behind it.
-use Rattle.std.proofs.Common.{arith, rules, ne_eqb, ◌≡◌, ◌≢◌, ℕ, ◌<◌, ◌≤◌, ◌==◌, ◌&&◌, ◌⊎◌, inl, inr, not, Bool, true, false, MatchBool, MatchOption, if◌then◌else◌, Option, Some, None, is_some, option_map, option_to_list, List, [], ◌∷◌, ◌++◌, refl, sym, ap, ◌∙◌, subst, eq-eqb, append-nil}
-use Rattle.std.proofs.lemmas.Grind.{common_steps}
+use Rattle.script_core.proofs.Common.{arith, rules, ne_eqb, ◌≡◌, ◌≢◌, ℕ, ◌<◌, ◌≤◌, ◌==◌, ◌&&◌, ◌⊎◌, inl, inr, not, Bool, true, false, MatchBool, MatchOption, if◌then◌else◌, Option, Some, None, is_some, option_map, option_to_list, List, [], ◌∷◌, ◌++◌, refl, sym, ap, ◌∙◌, subst, eq-eqb, append-nil, common_steps, and_from, and_parts, cases_Bool, eqb-true}
+use Rattle.script_core.proofs.Common.{Mode, Look, look_at, descriptor_limit, Held, Owner, Process, Description, mode_in, flock_mode_in, LocksHaveOneReport, AreFlockLocks, IsHeldReport, Rules, Lock, LkCmd, Sh, Ex, Un, Note, Request, OpenFile, Dup, DupTo, CloseFd, Seek, Resize, Lk, Flock, Fork, Exit, Signal, Kill, Enter, Leave, Bail, Live, Family, Bytes, Whole, Policy, State, opening_state, with_lock_of, with_process, Settles, granted, Wait, Outcome, wanted_mode, may_enter, may_leave, marked, ComesTo, Event, IsStep, Leads, Closing, OneOf, AllOf, IsWithinFiles, flock_line, closed_by, lost}
 use Rattle.std.specs.Prelude.{is_none}
-use Rattle.std.proofs.lemmas.Bool.{and_from, and_parts, cases_Bool, eqb-true, not-true}
-use Rattle.range_core.specs.declared.Mode.{Mode}
-use Rattle.fd_table.specs.declared.tables.Look.{Look}
-use Rattle.fd_table.specs.Descriptors.{look_at, descriptor_limit}
-use Rattle.lock_book.specs.declared.Held.{Held}
-use Rattle.lock_book.specs.declared.Owner.{Owner}
-use Rattle.lock_book.specs.declared.Owner.TheVariants.{Process, Description}
-use Rattle.lock_book.specs.Changes.{mode_in, flock_mode_in}
-use Rattle.lock_book.specs.OneReport.{LocksHaveOneReport}
-use Rattle.lock_book.specs.Reports.{AreFlockLocks, IsHeldReport}
-use Rattle.lock_manager.specs.declared.request.Rules.{Rules}
-use Rattle.lock_manager.specs.declared.request.Lock.{Lock}
-use Rattle.lock_manager.specs.declared.request.LkCmd.{LkCmd}
-use Rattle.lock_manager.specs.declared.request.FlockOp.TheVariants.{Sh, Ex, Un}
-use Rattle.lock_manager.specs.declared.request.Note.{Note}
-use Rattle.lock_manager.specs.declared.request.Request.{Request}
-use Rattle.lock_manager.specs.declared.request.Request.TheVariants.{OpenFile, Dup, DupTo, CloseFd, Seek, Resize, Lk, Flock, Fork, Exit, Signal, Kill, Enter, Leave, Bail}
-use Rattle.lock_manager.specs.declared.request.ProcState.TheVariants.{Live}
-use Rattle.wait_core.specs.declared.Family.{Family}
-use Rattle.wait_core.specs.declared.Family.TheVariants.{Bytes, Whole}
-use Rattle.wait_core.specs.declared.Policy.{Policy}
-use Rattle.lock_manager.specs.State.{State, opening_state, with_lock_of, with_process}
-use Rattle.lock_manager.specs.Settling.{Settles, granted}
-use Rattle.wait_core.specs.declared.Wait.{Wait}
-use Rattle.lock_manager.specs.Outcomes.{Outcome}
-use Rattle.lock_manager.specs.LockWords.{wanted_mode}
-use Rattle.lock_manager.specs.Sections.{may_enter, may_leave, marked}
-use Rattle.lock_manager.specs.Step.{ComesTo}
-use Rattle.session_core.specs.Event.{Event}
-use Rattle.session_core.specs.Runs.{IsStep, Leads}
-use Rattle.script_core.specs.declared.losses.Closing.{Closing}
-use Rattle.script_core.specs.declared.losses.Closing.TheVariants.{OneOf, AllOf}
-use Rattle.script_core.specs.Files.{IsWithinFiles}
-use Rattle.script_core.specs.Losses.{flock_line, closed_by, AreReleased, flock_of, lost_of, lost, gone, is_unlock, LossesAreDifferences}
+use Rattle.std.proofs.lemmas.Bool.{not-true}
+use Rattle.script_core.specs.Losses.{AreReleased, flock_of, lost_of, gone, is_unlock, LossesAreDifferences}
 use Rattle.script_core.proofs.FilesLemmas.{opening_files, step_files, look_file}
 use Rattle.script_core.proofs.DeadlockStepLemmas.{if_option}
 use Rattle.script_core.proofs.explained.LossLaws.{goes_with, released_reported}

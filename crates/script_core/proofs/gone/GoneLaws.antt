@@ -1,20 +1,8 @@
 -- Where the locks at some places go and no other owner loses its own, the difference of the reports is the report of those places.
-use Rattle.std.proofs.Common.{arith, ◌≡◌, ◌≢◌, ℕ, zero, suc, ◌+◌, ◌<◌, ◌≤◌, ◌⊎◌, inl, inr, not, Bool, true, false, IsTrue, IsFalse, if◌then◌else◌, Option, Some, None, List, All, Any, refl, sym, ap, ◌∙◌, subst, eq-eqb}
-use Rattle.std.proofs.lemmas.Grind.{common_steps}
-use Rattle.std.specs.List.{list_any}
-use Rattle.std.proofs.lemmas.Bool.{cases_lt, eqb-true, false_from_ne_true}
-use Rattle.std.proofs.lemmas.List.Elements.{All-append, All-nil, All-weaker}
+use Rattle.script_core.proofs.Common.{arith, ◌≡◌, ◌≢◌, ℕ, zero, suc, ◌+◌, ◌<◌, ◌≤◌, ◌⊎◌, inl, inr, not, Bool, true, false, IsTrue, IsFalse, if◌then◌else◌, Option, Some, None, List, All, Any, refl, sym, ap, ◌∙◌, subst, eq-eqb, common_steps, list_any, cases_lt, eqb-true, false_from_ne_true, All-append, All-nil}
+use Rattle.script_core.proofs.Common.{Mode, Held, Owner, Description, mode_in, flock_mode_in, ByteModes, FlockModes, LocksHaveOneReport, is_same_owner, IsFileReport, AreFileReports, IsHeldReport, IsFlockLine, State}
+use Rattle.std.proofs.lemmas.List.Elements.{All-weaker}
 use Rattle.std.proofs.lemmas.List.Folds.{Any-from_list_any, list_any-from_Any}
-use Rattle.range_core.specs.declared.Mode.{Mode}
-use Rattle.lock_book.specs.declared.Held.{Held}
-use Rattle.lock_book.specs.declared.Owner.{Owner}
-use Rattle.lock_book.specs.declared.Owner.TheVariants.{Description}
-use Rattle.lock_book.specs.Changes.{mode_in, flock_mode_in}
-use Rattle.lock_book.specs.Conflicts.{ByteModes, FlockModes}
-use Rattle.lock_book.specs.OneReport.{LocksHaveOneReport}
-use Rattle.lock_book.specs.Owners.{is_same_owner}
-use Rattle.lock_book.specs.Reports.{IsFileReport, AreFileReports, IsHeldReport, IsFlockLine}
-use Rattle.lock_manager.specs.State.{State}
 use Rattle.script_core.specs.Losses.{is_at, gone}
 use Rattle.script_core.proofs.DeadlockLocksLemmas.{any_left, any_right, report_has}
 use Rattle.script_core.proofs.explained.ReportPlaceLemmas.{PlaceTest, IsByteLine, bytes_at, flocks_at, report_left, reports_agree}

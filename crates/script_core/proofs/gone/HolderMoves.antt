@@ -1,27 +1,8 @@
 -- Each lock is of an owner that has the file open, and each wait of one that its process has open; what is set and granted keeps that.
-use Rattle.std.proofs.Common.{arith, ne_eqb, ◌≡◌, ◌≢◌, ℕ, ◌<◌, ◌≤◌, ◌==◌, ◌&&◌, ◌⊎◌, inl, inr, Bool, true, false, if◌then◌else◌, Option, Some, None, List, [], ◌∷◌, ◌++◌, refl, sym, ap, ◌∙◌, subst}
-use Rattle.std.proofs.lemmas.Grind.{common_steps}
+use Rattle.script_core.proofs.Common.{arith, ne_eqb, ◌≡◌, ◌≢◌, ℕ, ◌<◌, ◌≤◌, ◌==◌, ◌&&◌, ◌⊎◌, inl, inr, Bool, true, false, if◌then◌else◌, Option, Some, None, List, [], ◌∷◌, ◌++◌, refl, sym, ap, ◌∙◌, subst, common_steps, and_parts, cases_eq, eqb-true}
+use Rattle.script_core.proofs.Common.{OFFMAX, Mode, Span, Descriptors, OpenFileDescription, description_numbered, opening_descriptors, Owner, Process, Description, Change, FlockChange, sets_byte, mode_from, mode_in, flock_mode_from, flock_mode_in, Family, Bytes, Whole, Policy, Wait, Note, ProcState, Live, Waiting, State, opening_state, with_lock_of, with_lock, with_byte_mode, with_flock_mode, with_process, Settles, granted, Outcome, waits_then, HasOpenOn, is_alive}
 use Rattle.std.specs.List.{AllByRecursion as Each}
-use Rattle.std.proofs.lemmas.Bool.{and_parts, cases_eq, eqb-true, leb-true}
-use Rattle.range_core.specs.declared.TheConstants.{OFFMAX}
-use Rattle.range_core.specs.declared.Mode.{Mode}
-use Rattle.range_core.specs.declared.Span.{Span}
-use Rattle.fd_table.specs.Descriptors.{Descriptors, OpenFileDescription, description_numbered, opening_descriptors}
-use Rattle.lock_book.specs.declared.Owner.{Owner}
-use Rattle.lock_book.specs.declared.Owner.TheVariants.{Process, Description}
-use Rattle.lock_book.specs.Changes.{Change, FlockChange, sets_byte, mode_from, mode_in, flock_mode_from, flock_mode_in}
-use Rattle.wait_core.specs.declared.Family.{Family}
-use Rattle.wait_core.specs.declared.Family.TheVariants.{Bytes, Whole}
-use Rattle.wait_core.specs.declared.Policy.{Policy}
-use Rattle.wait_core.specs.declared.Wait.{Wait}
-use Rattle.lock_manager.specs.declared.request.Note.{Note}
-use Rattle.lock_manager.specs.declared.request.ProcState.{ProcState}
-use Rattle.lock_manager.specs.declared.request.ProcState.TheVariants.{Live, Waiting}
-use Rattle.lock_manager.specs.State.{State, opening_state, with_lock_of, with_lock, with_byte_mode, with_flock_mode, with_process}
-use Rattle.lock_manager.specs.Settling.{Settles, granted}
-use Rattle.lock_manager.specs.Outcomes.{Outcome, waits_then}
-use Rattle.lock_manager.specs.DescriptionLocks.{HasOpenOn}
-use Rattle.script_core.specs.Losses.{is_alive}
+use Rattle.std.proofs.lemmas.Bool.{leb-true}
 use Rattle.script_core.proofs.FitLemmas.{each_append, each_middle}
 use Rattle.script_core.proofs.explained.WaitingMoves.{AreStanding, IsSuspended, granted_stand}
 use Rattle.script_core.proofs.gone.GoneLaws.{one_owner}

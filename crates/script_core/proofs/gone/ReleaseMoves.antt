@@ -1,26 +1,13 @@
 -- The closing of descriptors removes the locks at the places that it takes, and no others.
-use Rattle.std.proofs.Common.{arith, ◌≡◌, ℕ, zero, suc, ◌+◌, ◌<◌, ◌≤◌, ◌==◌, ◌&&◌, ◌||◌, inl, inr, not, Bool, true, false, if◌then◌else◌, Option, Some, None, option_map, List, [], ◌∷◌, ◌++◌, Contains, get_or, refl, sym, ap, ◌∙◌, subst, eq-eqb}
-use Rattle.std.proofs.lemmas.Grind.{common_steps}
-use Rattle.std.specs.Prelude.{option_and_then}
-use Rattle.std.specs.List.{list_any, cons_option}
-use Rattle.std.proofs.lemmas.Bool.{and_from, and_parts, and_right, eqb-true, false_from_ne_true, le-leb, or_cases}
+use Rattle.script_core.proofs.Common.{arith, ◌≡◌, ℕ, zero, suc, ◌+◌, ◌<◌, ◌≤◌, ◌==◌, ◌&&◌, ◌||◌, inl, inr, not, Bool, true, false, if◌then◌else◌, Option, Some, None, option_map, List, [], ◌∷◌, ◌++◌, get_or, refl, sym, ap, ◌∙◌, subst, eq-eqb, common_steps, option_and_then, list_any, and_from, and_parts, eqb-true, false_from_ne_true, same_Some}
+use Rattle.script_core.proofs.Common.{OFFMAX, Mode, Look, Descriptors, OpenFileDescription, description_numbered, look_at, look_of, Released, AreReleased, Owner, Process, Description, is_same_owner, Change, FlockChange, whole_file, sets_byte, mode_from, mode_in, flock_mode_from, flock_mode_in, State, with_released, process_releases, description_releases, flock_releases, Closing, closes, is_such, any_open, stays_on, keeps, is_alive, stays_open}
+use Rattle.std.proofs.Common.{Contains}
+use Rattle.std.specs.List.{cons_option}
+use Rattle.std.proofs.lemmas.Bool.{and_right, le-leb, or_cases}
 use Rattle.std.proofs.lemmas.List.Folds.{Any-from_list_any, list_any_at}
-use Rattle.std.proofs.lemmas.Option.{same_Some}
-use Rattle.range_core.specs.declared.TheConstants.{OFFMAX}
-use Rattle.range_core.specs.declared.Mode.{Mode}
 use Rattle.range_core.specs.Changes.{is_covered}
-use Rattle.fd_table.specs.declared.tables.Look.{Look}
-use Rattle.fd_table.specs.Descriptors.{Descriptors, OpenFileDescription, IsOpen, description_numbered, look_at, look_of}
-use Rattle.fd_table.specs.Releases.{Released, AreReleased}
-use Rattle.lock_book.specs.declared.Owner.{Owner}
-use Rattle.lock_book.specs.declared.Owner.TheVariants.{Process, Description}
-use Rattle.lock_book.specs.Owners.{is_same_owner}
-use Rattle.lock_book.specs.Changes.{Change, FlockChange, whole_file, sets_byte, mode_from, mode_in, flock_mode_from, flock_mode_in}
-use Rattle.lock_manager.specs.State.{State}
-use Rattle.lock_manager.specs.DescriptorCalls.{with_released, process_releases, description_releases, flock_releases}
+use Rattle.fd_table.specs.Descriptors.{IsOpen}
 use Rattle.lock_manager.specs.LockReleases.{is_one_of}
-use Rattle.script_core.specs.declared.losses.Closing.{Closing}
-use Rattle.script_core.specs.Losses.{closes, is_such, any_open, stays_on, keeps, is_alive, stays_open}
 use Rattle.script_core.proofs.LossLemmas.{found_open, somebody, keeps_it}
 use Rattle.script_core.proofs.gone.HolderMoves.{AreHeld}
 

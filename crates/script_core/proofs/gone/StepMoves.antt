@@ -1,41 +1,11 @@
 -- Each step keeps who has what open; and what a request comes to that closes nothing takes no lock, but an unlock and a conversion by flock.
-use Rattle.std.proofs.Common.{arith, rules, ne_eqb, ◌≡◌, ◌≢◌, ℕ, ◌≤◌, ◌==◌, ◌&&◌, ◌||◌, inl, inr, Bool, true, false, MatchBool, MatchOption, if◌then◌else◌, Option, Some, None, option_map, Ok, Err, List, [], ◌∷◌, refl, sym, ap, ◌∙◌, subst, eq-eqb, ⊎_elim, ℤ}
-use Rattle.std.proofs.lemmas.Grind.{common_steps}
-use Rattle.std.proofs.lemmas.Bool.{cases_eq}
-use Rattle.range_core.specs.declared.Mode.{Mode}
+use Rattle.script_core.proofs.Common.{arith, rules, ne_eqb, ◌≡◌, ◌≢◌, ℕ, ◌≤◌, ◌==◌, ◌&&◌, ◌||◌, inl, inr, Bool, true, false, MatchBool, MatchOption, if◌then◌else◌, Option, Some, None, option_map, Ok, Err, List, [], ◌∷◌, refl, sym, ap, ◌∙◌, subst, eq-eqb, ⊎_elim, ℤ, common_steps, cases_eq}
+use Rattle.script_core.proofs.Common.{Mode, Span, resolution, Access, FdFault, Look, Descriptors, SameDescriptors, OpenFileDescription, description_numbered, look_at, descriptor_limit, Owner, Process, Description, mode_in, flock_mode_in, Policy, Wait, Rules, Lock, LkCmd, GetLk, SetLk, SetLkW, OGetLk, OSetLk, OSetLkW, EINVAL, FlockOp, Sh, Ex, Un, Note, Reply, ProcState, Unborn, Live, Waiting, Ended, State, with_lock, with_byte_mode, with_flock_mode, with_process, Settles, granted, Outcome, IsRefusal, answered, answered_then, refused, waits_then, OpenComesTo, DupComesTo, SeekComesTo, ResizeComesTo, is_get, is_bad_argument, wanted_mode, permits, wanted_lock, held_reply, lock_owner, GetComesTo, SetComesTo, CommandComesTo, ModeComesTo, DescribedComesTo, FlockTestComesTo, FlockModeComesTo, FlockOpComesTo, ForkComesTo, SignalComesTo, without_wait, is_alive}
 use Rattle.range_core.specs.declared.Mode.TheVariants.{Read, Write}
-use Rattle.range_core.specs.declared.Span.{Span}
-use Rattle.range_core.specs.Resolving.{resolution}
-use Rattle.fd_table.specs.declared.Access.{Access}
-use Rattle.fd_table.specs.declared.FdFault.{FdFault}
-use Rattle.fd_table.specs.declared.tables.Look.{Look}
-use Rattle.fd_table.specs.Descriptors.{Descriptors, SameDescriptors, OpenFileDescription, description_numbered, look_at, descriptor_limit, with_child}
-use Rattle.lock_book.specs.declared.Owner.{Owner}
-use Rattle.lock_book.specs.declared.Owner.TheVariants.{Process, Description}
-use Rattle.lock_book.specs.Changes.{mode_in, flock_mode_in}
-use Rattle.wait_core.specs.declared.Policy.{Policy}
-use Rattle.wait_core.specs.declared.Wait.{Wait}
-use Rattle.lock_manager.specs.declared.request.Rules.{Rules}
-use Rattle.lock_manager.specs.declared.request.Lock.{Lock}
-use Rattle.lock_manager.specs.declared.request.LkCmd.{LkCmd}
-use Rattle.lock_manager.specs.declared.request.LkCmd.TheVariants.{GetLk, SetLk, SetLkW, OGetLk, OSetLk, OSetLkW}
-use Rattle.lock_manager.specs.declared.request.Errno.TheVariants.{EINVAL}
-use Rattle.lock_manager.specs.declared.request.FlockOp.{FlockOp}
-use Rattle.lock_manager.specs.declared.request.FlockOp.TheVariants.{Sh, Ex, Un}
-use Rattle.lock_manager.specs.declared.request.Note.{Note}
-use Rattle.lock_manager.specs.declared.request.Reply.{Reply}
+use Rattle.fd_table.specs.Descriptors.{with_child}
 use Rattle.lock_manager.specs.declared.request.Reply.TheVariants as replies
-use Rattle.lock_manager.specs.declared.request.ProcState.{ProcState}
-use Rattle.lock_manager.specs.declared.request.ProcState.TheVariants.{Unborn, Live, Waiting, Ended}
-use Rattle.lock_manager.specs.State.{State, with_lock, with_byte_mode, with_flock_mode, with_process}
-use Rattle.lock_manager.specs.Settling.{Settles, granted}
-use Rattle.lock_manager.specs.Outcomes.{Outcome, IsRefusal, answered, answered_then, refused, waits_then}
-use Rattle.lock_manager.specs.DescriptorCalls.{OpenComesTo, DupComesTo, SeekComesTo, ResizeComesTo}
-use Rattle.lock_manager.specs.LockWords.{is_get, is_bad_argument, wanted_mode, permits, wanted_lock, held_reply, lock_owner, is_ofd}
-use Rattle.lock_manager.specs.LockCommands.{GetComesTo, SetComesTo, CommandComesTo, ModeComesTo, DescribedComesTo}
-use Rattle.lock_manager.specs.FlockCalls.{FlockTestComesTo, FlockModeComesTo, FlockOpComesTo, ConversionComesTo, wanted_flock, is_same_mode}
-use Rattle.lock_manager.specs.ProcessCalls.{ForkComesTo, SignalComesTo, without_wait}
-use Rattle.script_core.specs.Losses.{is_alive}
+use Rattle.lock_manager.specs.LockWords.{is_ofd}
+use Rattle.lock_manager.specs.FlockCalls.{ConversionComesTo, wanted_flock, is_same_mode}
 use Rattle.script_core.proofs.OutcomeFitLemmas.{by_bool, each_other, resolved_within}
 use Rattle.script_core.proofs.DeadlockStepLemmas.{if_option, if_result}
 use Rattle.script_core.proofs.explained.WaitingMoves.{AreStanding, same_stand, settles_stand}

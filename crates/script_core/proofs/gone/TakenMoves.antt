@@ -1,35 +1,14 @@
 -- What a close, dup2, exit or kill comes to: the locks at the places that its closing takes are gone, and so they are behind the settling.
-use Rattle.std.proofs.Common.{arith, rules, ne_eqb, ◌≡◌, ◌≢◌, ℕ, ◌<◌, ◌≤◌, ◌==◌, ◌&&◌, ◌⊎◌, inl, inr, not, nat_lt, Bool, true, false, MatchBool, if◌then◌else◌, Option, Some, None, is_some, Ok, Err, List, [], ◌∷◌, refl, sym, ap, ◌∙◌, subst, eq-eqb, ⊎_elim}
-use Rattle.std.proofs.lemmas.Grind.{common_steps}
-use Rattle.std.specs.Prelude.{option_and_then, option_map}
+use Rattle.script_core.proofs.Common.{arith, rules, ne_eqb, ◌≡◌, ◌≢◌, ℕ, ◌<◌, ◌≤◌, ◌==◌, ◌&&◌, ◌⊎◌, inl, inr, not, nat_lt, Bool, true, false, MatchBool, if◌then◌else◌, Option, Some, None, is_some, Ok, Err, List, [], ◌∷◌, refl, sym, ap, ◌∙◌, subst, eq-eqb, ⊎_elim, common_steps, option_and_then, and_from, and_parts, cases_Bool, cases_eq, eqb-true, false_from_ne_true, le-ltb}
+use Rattle.script_core.proofs.Common.{Mode, Descriptors, OpenFileDescription, SameDescriptors, description_numbered, look_at, look_of, descriptor_limit, with_descriptor, Released, AreReleased, nothing, Owner, Process, Description, Change, sets_byte, mode_in, flock_mode_in, Family, Bytes, Whole, Policy, Wait, Rules, Note, DupTo, ProcState, Unborn, Live, Waiting, Ended, State, with_lock_of, with_process, Settles, granted, Outcome, answered, with_released, DupToComesTo, CloseComesTo, EndComesTo, KillOtherComesTo, without_wait, Closing, Nothing, OneOf, AllOf, closed_by, is_alive, stays_open}
+use Rattle.std.specs.Prelude.{option_map}
 use Rattle.std.specs.List.{AllByRecursion as Each}
-use Rattle.std.proofs.lemmas.Bool.{and_from, and_parts, cases_Bool, cases_eq, eqb-true, false_from_ne_true, le-ltb, lt-ltb}
-use Rattle.range_core.specs.declared.Mode.{Mode}
+use Rattle.std.proofs.lemmas.Bool.{lt-ltb}
 use Rattle.fd_table.specs.declared.FdFault.TheVariants.{BadFd, TooMany, Invalid, Taken, Memory}
-use Rattle.fd_table.specs.Descriptors.{Descriptors, OpenFileDescription, SameDescriptors, description_numbered, look_at, look_of, descriptor_limit, with_descriptor}
-use Rattle.fd_table.specs.Releases.{Released, AreReleased, nothing}
-use Rattle.lock_book.specs.declared.Owner.{Owner}
-use Rattle.lock_book.specs.declared.Owner.TheVariants.{Process, Description}
-use Rattle.lock_book.specs.Changes.{Change, sets_byte, mode_in, flock_mode_in}
-use Rattle.wait_core.specs.declared.Family.{Family}
-use Rattle.wait_core.specs.declared.Family.TheVariants.{Bytes, Whole}
-use Rattle.wait_core.specs.declared.Policy.{Policy}
-use Rattle.wait_core.specs.declared.Wait.{Wait}
-use Rattle.lock_manager.specs.declared.request.Rules.{Rules}
-use Rattle.lock_manager.specs.declared.request.Note.{Note}
 use Rattle.lock_manager.specs.declared.request.Reply.TheVariants as replies
-use Rattle.lock_manager.specs.declared.request.Request.TheVariants.{DupTo}
-use Rattle.lock_manager.specs.declared.request.ProcState.{ProcState}
-use Rattle.lock_manager.specs.declared.request.ProcState.TheVariants.{Unborn, Live, Waiting, Ended}
-use Rattle.lock_manager.specs.State.{State, with_lock_of, with_process}
-use Rattle.lock_manager.specs.Settling.{Settles, granted}
-use Rattle.lock_manager.specs.Outcomes.{Outcome, answered}
-use Rattle.lock_manager.specs.DescriptorCalls.{with_released, DupToComesTo, CloseComesTo}
-use Rattle.lock_manager.specs.ProcessCalls.{EndComesTo, KillComesTo, KillOtherComesTo, without_wait}
+use Rattle.lock_manager.specs.ProcessCalls.{KillComesTo}
 use Rattle.lock_manager.specs.Sections.{BailComesTo}
-use Rattle.script_core.specs.declared.losses.Closing.{Closing}
-use Rattle.script_core.specs.declared.losses.Closing.TheVariants.{Nothing, OneOf, AllOf}
-use Rattle.script_core.specs.Losses.{closed_by, killed, is_alive, stays_open}
+use Rattle.script_core.specs.Losses.{killed}
 use Rattle.script_core.proofs.FitLemmas.{each_both, each_middle}
 use Rattle.script_core.proofs.OutcomeFitLemmas.{each_other, others_left}
 use Rattle.script_core.proofs.explained.LossLaws.{goes_by, goes_with}

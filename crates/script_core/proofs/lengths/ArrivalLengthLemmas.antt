@@ -1,18 +1,9 @@
 -- The arrivals of a script: their lines take no more bytes than it has, and each has seven with its line feed: for `outputs_are_short`.
-use Rattle.std.proofs.lemmas.Grind.{common_steps}
-use Rattle.std.proofs.Common.{◌≡◌, ℕ, ◌+◌, ◌*◌, ◌≤◌, Bool, List, [], ◌∷◌, ◌++◌, length, filter, Ok, Err, ap, arith}
-use Rattle.std.specs.List.{AllByRecursion as Each, slice_split, onto_first}
+use Rattle.script_core.proofs.Common.{common_steps, ◌≡◌, ℕ, ◌+◌, ◌*◌, ◌≤◌, Bool, List, [], ◌∷◌, ◌++◌, length, filter, Ok, Err, ap, arith, slice_split, onto_first, recursion_from_All, Limits, Request, Line, request_words, Meaning, IsWritable, Says, without_empty_end, lines_of, words_of, script_limit, Reading, LineGives, LinesGive, Reads, limits_of, reading_after}
+use Rattle.std.specs.List.{AllByRecursion as Each}
 use Rattle.std.proofs.lemmas.Bool.{ltb-false}
-use Rattle.std.proofs.lemmas.List.Elements.{recursion_from_All}
 use Rattle.std.proofs.lemmas.List.Splits.{length-slice_split}
-use Rattle.fd_table.specs.declared.Limits.{Limits}
-use Rattle.lock_manager.specs.declared.request.Request.{Request}
-use Rattle.script_core.specs.declared.line.Line.{Line}
 use Rattle.script_core.specs.declared.line.Line.TheVariants as lines
-use Rattle.script_core.specs.RequestText.{request_words}
-use Rattle.script_core.specs.ScriptText.{Meaning, IsWritable, Says}
-use Rattle.script_core.specs.Words.{without_empty_end, lines_of, words_of, script_limit}
-use Rattle.script_core.specs.Reading.{Reading, LineGives, LinesGive, Reads, limits_of, reading_after}
 use Rattle.script_core.proofs.RoundTripLemmas.{more_length, IsWord-process, IsWord-descriptor}
 use Rattle.script_core.proofs.ProcessLemmas.{IsArrivalOf, accepted, success, arrival_said, arrivals_read}
 

@@ -1,16 +1,11 @@
 -- The locks of a report are no more than the starts of the changes, since no two begin at one start: for `outputs_are_short`.
-use Rattle.std.proofs.lemmas.Grind.{common_steps}
-use Rattle.std.proofs.Common.{◌≡◌, ◌≢◌, ℕ, zero, suc, ◌+◌, ◌<◌, ◌≤◌, ◌⊎◌, Bool, true, false, List, [], ◌∷◌, ◌++◌, length, flat_map, AllPairs, None, inl, inr, ⊎_elim, refl, sym, ap, ◌∙◌, subst, arith, suc-le-suc}
-use Rattle.std.specs.Prelude.{⊤, IsFalse}
+use Rattle.script_core.proofs.Common.{common_steps, ◌≡◌, ◌≢◌, ℕ, zero, suc, ◌+◌, ◌<◌, ◌≤◌, ◌⊎◌, Bool, true, false, List, [], ◌∷◌, ◌++◌, length, flat_map, None, inl, inr, ⊎_elim, refl, sym, ap, ◌∙◌, subst, arith, ⊤, recursion_from_All, Owner, Process, Description, Held, Change, FlockChange, mode_in, flock_mode_in, AreFlockLocks, AreFileReports, IsFileReport, IsFlockLine, IsHeldReport}
+use Rattle.std.proofs.Common.{AllPairs, suc-le-suc}
+use Rattle.std.specs.Prelude.{IsFalse}
 use Rattle.std.specs.List.{AllByRecursion as Each}
-use Rattle.std.proofs.lemmas.List.Elements.{recursion_from_All}
 use Rattle.range_core.specs.Ranges.{IsRun}
-use Rattle.lock_book.specs.declared.Owner.{Owner}
-use Rattle.lock_book.specs.declared.Owner.TheVariants.{Process, Description}
-use Rattle.lock_book.specs.declared.Held.{Held}
 use Rattle.lock_book.specs.Owners.{IsBefore}
-use Rattle.lock_book.specs.Changes.{Change, FlockChange, mode_in, flock_mode_in}
-use Rattle.lock_book.specs.Reports.{AreByteLocks, AreFlockLocks, AreFileReports, IsFileReport, IsFlockLine, IsHeldReport}
+use Rattle.lock_book.specs.Reports.{AreByteLocks}
 use Rattle.script_core.proofs.FitLemmas.{FitsChange, each_append, each_both, each_map}
 use Rattle.script_core.proofs.OutcomeFitLemmas.{mode_fits}
 use Rattle.script_core.proofs.lengths.StartLemmas.{Start, IsOneOf, byte_start, flock_start, starts_of, flock_starts_of, starts_in, in_front, in_back, run_start, flock_has_start}

@@ -1,20 +1,10 @@
 -- The requests of a journal take no more bytes than its arrivals, since of each process just the first that it sent are taken: for
 -- `outputs_are_short`.
-use Rattle.std.proofs.lemmas.Grind.{common_steps}
-use Rattle.std.proofs.Common.{◌≡◌, ◌≢◌, ℕ, ◌+◌, ◌*◌, ◌≤◌, ◌==◌, List, [], ◌∷◌, ◌++◌, length, length-append, map, filter, Some, None, slice_get, ⊎_elim, refl, sym, ap, ◌∙◌, subst, arith, eq-eqb, ne_eqb, append_assoc, append-nil}
+use Rattle.script_core.proofs.Common.{common_steps, ◌≡◌, ◌≢◌, ℕ, ◌+◌, ◌*◌, ◌≤◌, ◌==◌, List, [], ◌∷◌, ◌++◌, length, length-append, map, filter, Some, None, slice_get, ⊎_elim, refl, sym, ap, ◌∙◌, subst, arith, eq-eqb, ne_eqb, append_assoc, append-nil, cases_eq, filter-append, Limits, Rules, Request, State, opening_state, Event, events_of, requests_sent, IsWritableEvent}
 use Rattle.std.specs.List.{AllByRecursion as Each}
-use Rattle.std.proofs.lemmas.Bool.{cases_eq}
 use Rattle.std.proofs.lemmas.List.{length-map, map-append}
-use Rattle.std.proofs.lemmas.List.Elements.{filter-append}
-use Rattle.fd_table.specs.declared.Limits.{Limits}
-use Rattle.lock_manager.specs.declared.request.Rules.{Rules}
-use Rattle.lock_manager.specs.declared.request.Request.{Request}
-use Rattle.lock_manager.specs.State.{State, opening_state}
-use Rattle.session_core.specs.Event.{Event}
-use Rattle.session_core.specs.Runs.{events_of}
-use Rattle.session_core.specs.Mail.{IsPrefixOf, requests_sent, requests_taken}
+use Rattle.session_core.specs.Mail.{IsPrefixOf, requests_taken}
 use Rattle.session_core.specs.Draining.{next_untaken, TakesMail, DrainsFrom, IsDrain}
-use Rattle.script_core.specs.EntryReading.{IsWritableEvent}
 use Rattle.script_core.proofs.lengths.ArrivalLengthLemmas.{request_length, arrivals_length, seven_bytes}
 
 -- ---- bytes

@@ -1,8 +1,6 @@
 -- Outputs are short: their arrivals, their notes and the locks that they leave are few.
-use Rattle.std.proofs.Common.{ℕ, length, length-append, flat_map, ap, arith}
-use Rattle.session_core.specs.Mail.{requests_sent}
-use Rattle.script_core.specs.EntryText.{entry_line}
-use Rattle.script_core.specs.Output.{OutputsAreShort, processes_in}
+use Rattle.script_core.proofs.Common.{ℕ, length, length-append, flat_map, ap, arith, requests_sent, entry_line, processes_in}
+use Rattle.script_core.specs.Output.{OutputsAreShort}
 use Rattle.script_core.proofs.RunFitLemmas.{run_of_output, output_fits}
 use Rattle.script_core.proofs.ReportFitLemmas.{sent_small}
 use Rattle.script_core.proofs.OutputReadingLaws.{small_limit}

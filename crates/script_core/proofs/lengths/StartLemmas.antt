@@ -1,13 +1,7 @@
 -- Where held locks begin: each one at a start that some change made, and a change makes two at most: for `outputs_are_short`.
-use Rattle.std.proofs.lemmas.Grind.{common_steps}
-use Rattle.std.proofs.Common.{◌≡◌, ◌≢◌, ℕ, zero, suc, ◌+◌, ◌<◌, ◌≤◌, ◌==◌, ◌⊎◌, Bool, true, false, List, [], ◌∷◌, ◌++◌, length, length-append, flat_map, Option, Some, None, inl, inr, ⊎_elim, refl, sym, ◌∙◌, subst, arith, eq-eqb, eqb-true, leb-true, le-leb, eq-or-lt_of_le, if◌then◌else◌}
-use Rattle.range_core.specs.declared.TheConstants.{OFFMAX}
-use Rattle.range_core.specs.declared.Mode.{Mode}
-use Rattle.range_core.specs.declared.Span.{Span}
-use Rattle.range_core.specs.Ranges.{Covers, IsRun}
-use Rattle.lock_book.specs.declared.Owner.{Owner}
-use Rattle.lock_book.specs.declared.Owner.TheVariants.{Description}
-use Rattle.lock_book.specs.Changes.{Change, FlockChange, sets_byte, mode_from, mode_in, flock_mode_from, flock_mode_in}
+use Rattle.script_core.proofs.Common.{common_steps, ◌≡◌, ◌≢◌, ℕ, zero, suc, ◌+◌, ◌<◌, ◌≤◌, ◌==◌, ◌⊎◌, Bool, true, false, List, [], ◌∷◌, ◌++◌, length, length-append, flat_map, Option, Some, None, inl, inr, ⊎_elim, refl, sym, ◌∙◌, subst, arith, eq-eqb, if◌then◌else◌, OFFMAX, Mode, Span, Covers, Owner, Description, Change, FlockChange, sets_byte, mode_from, mode_in, flock_mode_from, flock_mode_in}
+use Rattle.std.proofs.Common.{eqb-true, leb-true, le-leb, eq-or-lt_of_le}
+use Rattle.range_core.specs.Ranges.{IsRun}
 use Rattle.script_core.proofs.OutcomeFitLemmas.{both_true}
 
 -- ---- starts

@@ -1,15 +1,7 @@
 -- Of so many events there are twice as many notes at most, and no more locks and waits together: for `outputs_are_short`.
-use Rattle.std.proofs.lemmas.Grind.{common_steps}
-use Rattle.std.proofs.Common.{rules, ℕ, ◌+◌, ◌*◌, ◌≤◌, List, [], ◌∷◌, length, length-append, flat_map, sym, subst, arith}
+use Rattle.script_core.proofs.Common.{common_steps, rules, ℕ, ◌+◌, ◌*◌, ◌≤◌, List, [], ◌∷◌, length, length-append, flat_map, sym, subst, arith, Held, mode_in, flock_mode_in, IsHeldReport, Rules, State, opening_state, Event, Leads, processes_in}
 use Rattle.std.specs.List.{AllByRecursion as Each}
-use Rattle.lock_book.specs.declared.Held.{Held}
-use Rattle.lock_book.specs.Changes.{mode_in, flock_mode_in}
-use Rattle.lock_book.specs.Reports.{IsHeldReport}
-use Rattle.lock_manager.specs.declared.request.Rules.{Rules}
-use Rattle.lock_manager.specs.State.{State, opening_state}
-use Rattle.session_core.specs.Event.{Event}
-use Rattle.session_core.specs.Runs.{Leads}
-use Rattle.script_core.specs.Output.{IsOutput, processes_in}
+use Rattle.script_core.specs.Output.{IsOutput}
 use Rattle.script_core.proofs.FitLemmas.{FitsChange}
 use Rattle.script_core.proofs.RunFitLemmas.{run_of_output, output_fits}
 use Rattle.script_core.proofs.lengths.StartLemmas.{starts_of, flock_starts_of}

@@ -1,41 +1,11 @@
 -- What an event adds: two at most to the starts with twice the waits, and two to the notes with the waits: for `outputs_are_short`.
-use Rattle.std.proofs.lemmas.Grind.{common_steps, flat_map-append}
-use Rattle.std.proofs.Common.{rules, ◌≡◌, ℕ, suc, ◌+◌, ◌*◌, ◌≤◌, ◌==◌, Bool, List, [], ◌∷◌, ◌++◌, length, length-append, filter_map, flat_map, Option, None, option_map, Result, MatchOption, MatchResult, refl, sym, ap, ◌∙◌, subst, arith}
-use Rattle.range_core.specs.declared.Mode.{Mode}
-use Rattle.range_core.specs.declared.Span.{Span}
-use Rattle.range_core.specs.declared.RangeFault.{RangeFault}
-use Rattle.lock_book.specs.declared.Owner.TheVariants.{Description}
-use Rattle.lock_book.specs.Changes.{whole_file}
-use Rattle.fd_table.specs.declared.Access.{Access}
-use Rattle.fd_table.specs.declared.FdFault.{FdFault}
-use Rattle.fd_table.specs.declared.tables.Look.{Look}
-use Rattle.fd_table.specs.Releases.{Released}
-use Rattle.fd_table.specs.Descriptors.{Descriptors, OpenFileDescription, description_numbered, look_at}
-use Rattle.wait_core.specs.declared.Policy.{Policy}
-use Rattle.wait_core.specs.declared.Wait.{Wait}
-use Rattle.lock_manager.specs.declared.request.Rules.{Rules}
-use Rattle.lock_manager.specs.declared.request.Errno.{Errno}
-use Rattle.lock_manager.specs.declared.request.Errno.TheVariants.{EBADF}
-use Rattle.lock_manager.specs.declared.request.Lock.{Lock}
-use Rattle.lock_manager.specs.declared.request.LkCmd.{LkCmd}
-use Rattle.lock_manager.specs.declared.request.FlockOp.{FlockOp}
-use Rattle.lock_manager.specs.declared.request.Request.{Request}
-use Rattle.lock_manager.specs.declared.request.Request.TheVariants.{OpenFile, Dup, DupTo, CloseFd, Seek, Resize, Lk, Flock, Fork, Exit, Signal, Kill, Enter, Leave, Bail}
-use Rattle.lock_manager.specs.declared.request.Note.{Note}
-use Rattle.lock_manager.specs.declared.request.Reply.{Reply}
+use Rattle.script_core.proofs.Common.{common_steps, rules, ◌≡◌, ℕ, suc, ◌+◌, ◌*◌, ◌≤◌, ◌==◌, Bool, List, [], ◌∷◌, ◌++◌, length, length-append, flat_map, Option, None, option_map, Result, MatchOption, MatchResult, refl, sym, ap, ◌∙◌, subst, arith}
+use Rattle.script_core.proofs.Common.{Mode, Span, RangeFault, Description, whole_file, Access, FdFault, Look, Released, Descriptors, OpenFileDescription, description_numbered, look_at, Policy, Wait, Rules, Errno, EBADF, Lock, LkCmd, FlockOp, Request, OpenFile, Dup, DupTo, CloseFd, Seek, Resize, Lk, Flock, Fork, Exit, Signal, Kill, Enter, Leave, Bail, Note, Reply, ProcState, Unborn, Live, Waiting, Ended, State, with_lock, with_byte_mode, Settles, granted, Outcome, answered, refused, waits_then, range_error, IsRefusal, with_released, process_releases, description_releases, flock_releases, OpenComesTo, DupComesTo, DupToComesTo, CloseComesTo, lock_owner, DescribedComesTo, ModeComesTo, GetComesTo, SetComesTo, FlockOpComesTo, FlockTestComesTo, ForkComesTo, EndComesTo, SignalComesTo, KillOtherComesTo, may_enter, may_leave, ComesTo, Step}
+use Rattle.std.proofs.lemmas.Grind.{flat_map-append}
+use Rattle.std.proofs.Common.{filter_map}
 use Rattle.lock_manager.specs.declared.request.Reply.TheVariants as replies
-use Rattle.lock_manager.specs.declared.request.ProcState.{ProcState}
-use Rattle.lock_manager.specs.declared.request.ProcState.TheVariants.{Unborn, Live, Waiting, Ended}
-use Rattle.lock_manager.specs.State.{State, with_lock, with_byte_mode}
-use Rattle.lock_manager.specs.Settling.{Settles, granted}
-use Rattle.lock_manager.specs.Outcomes.{Outcome, answered, refused, waits_then, range_error, IsRefusal}
-use Rattle.lock_manager.specs.DescriptorCalls.{with_released, process_releases, description_releases, flock_releases, OpenComesTo, DupComesTo, DupToComesTo, CloseComesTo, DoneComesTo}
-use Rattle.lock_manager.specs.LockWords.{lock_owner}
-use Rattle.lock_manager.specs.LockCommands.{DescribedComesTo, RangeComesTo, ModeComesTo, GetComesTo, SetComesTo, IsLocked}
-use Rattle.lock_manager.specs.FlockCalls.{FlockOpComesTo, FlockTestComesTo}
-use Rattle.lock_manager.specs.ProcessCalls.{ForkComesTo, EndComesTo, SignalComesTo, KillOtherComesTo}
-use Rattle.lock_manager.specs.Sections.{may_enter, may_leave}
-use Rattle.lock_manager.specs.Step.{ComesTo, Step}
+use Rattle.lock_manager.specs.DescriptorCalls.{DoneComesTo}
+use Rattle.lock_manager.specs.LockCommands.{RangeComesTo, IsLocked}
 use Rattle.script_core.proofs.FitLemmas.{same_locked}
 use Rattle.script_core.proofs.OutcomeFitLemmas.{by_bool, fewer_left}
 use Rattle.script_core.proofs.lengths.StartLemmas.{starts_of, flock_starts_of, two_starts}

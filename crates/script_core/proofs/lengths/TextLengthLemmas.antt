@@ -1,22 +1,11 @@
 -- How long entries and reports are, which have so many bytes for each note and each line: for `outputs_are_short`.
-use Rattle.std.proofs.Common.{ℕ, zero, suc, ◌+◌, ◌*◌, ◌^◌, ◌<◌, ◌≤◌, true, false, List, [], ◌∷◌, ◌++◌, length, length-append, flat_map, ap, arith, if◌then◌else◌}
-use Rattle.std.specs.List.{AllByRecursion as Each, join_with_byte}
+use Rattle.script_core.proofs.Common.{ℕ, zero, suc, ◌+◌, ◌*◌, ◌^◌, ◌<◌, ◌≤◌, true, false, List, [], ◌∷◌, ◌++◌, length, length-append, flat_map, ap, arith, if◌then◌else◌, join_with_byte, All-from_recursion}
+use Rattle.script_core.proofs.Common.{Held, Limits, ProcState, State, Event, AreNumbered, ProcessLine, script_limit, request_words, tag, note_text, entry_text, entry_line, IsWritableEvent, IsReport, held_text, held_line, wait_text, wait_line, is_reported, process_text, line_of, reported_line, process_lines}
+use Rattle.std.specs.List.{AllByRecursion as Each}
 use Rattle.std.proofs.lemmas.List.Concat.{length-flat_map}
-use Rattle.std.proofs.lemmas.List.Elements.{All-from_recursion}
 use Rattle.std.proofs.lemmas.List.Sums.{sum_by-le}
-use Rattle.lock_book.specs.declared.Held.{Held}
-use Rattle.fd_table.specs.declared.Limits.{Limits}
-use Rattle.lock_manager.specs.declared.request.ProcState.{ProcState}
-use Rattle.lock_manager.specs.State.{State}
-use Rattle.session_core.specs.Event.{Event}
-use Rattle.session_core.specs.Runs.{AreNumbered}
 use Rattle.session_core.specs.Mail.{events_of}
-use Rattle.script_core.specs.declared.report_text.ProcessLine.{ProcessLine}
-use Rattle.script_core.specs.Words.{script_limit}
-use Rattle.script_core.specs.RequestText.{request_words}
-use Rattle.script_core.specs.EntryText.{tag, note_text, entry_text, entry_line}
-use Rattle.script_core.specs.EntryReading.{IsWritableEvent}
-use Rattle.script_core.specs.ReportText.{IsReport, held_text, held_line, wait_text, wait_line, is_reported, process_text, process_line, line_of, reported_line, process_lines}
+use Rattle.script_core.specs.ReportText.{process_line}
 use Rattle.script_core.proofs.RoundTripLemmas.{length-join, join_cons}
 use Rattle.script_core.proofs.EntryRoundTripLemmas.{length-tag, length-notes}
 use Rattle.script_core.proofs.FitLemmas.{FitsWait, Fits, each_map, few_waits}

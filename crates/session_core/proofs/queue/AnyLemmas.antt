@@ -1,5 +1,5 @@
 -- Some element of a list.
-use Rattle.std.proofs.Common.{suc, ◌+◌, ◌∙◌, refl, arith, List, ◌∷◌, ◌++◌, Any, length}
+use Rattle.session_core.proofs.Common.{suc, ◌+◌, ◌∙◌, refl, arith, List, ◌∷◌, ◌++◌, Any, length}
 use Rattle.std.proofs.lemmas.List.{get_or_append_left, get_or-append-add, length-append}
 
 pub Any-here : {X : Type 0} (P : X → Type 0) (x : X) (xs : List X) → P x → Any P (x ∷ xs)

@@ -1,40 +1,15 @@
 -- Under the queue policy a request that would wait were it blocked sets its lock at once only where no wait conflicts with it.
-use Rattle.std.proofs.Common.{arith, rules, ℕ, ◌≡◌, ◌≢◌, ◌≤◌, ◌⊎◌, inl, inr, refl, sym, ◌∙◌, ap, subst, Bool, true, false, List, [], ◌∷◌, ◌++◌, ⊎_elim, Any, Option, Some, None, MatchBool, MatchOption}
-use Rattle.std.proofs.lemmas.Grind.{common_steps}
-use Rattle.std.specs.Prelude.{IsTrue, IsFalse}
-use Rattle.std.specs.List.{Contains, AllByRecursion as Each}
-use Rattle.std.proofs.lemmas.List.Elements.{All-contains, All-from_recursion, Contains-append_left, Contains-append_right}
-use Rattle.range_core.specs.declared.Mode.{Mode}
-use Rattle.range_core.specs.declared.Mode.TheVariants.{Read, Write}
-use Rattle.lock_book.specs.Changes.{flock_mode_in}
-use Rattle.fd_table.specs.declared.tables.Look.{Look}
-use Rattle.wait_core.specs.declared.Policy.TheVariants.{Queue}
-use Rattle.wait_core.specs.declared.Wait.{Wait}
-use Rattle.wait_core.specs.Blocking.{WaitsConflict, IsBlocked}
-use Rattle.lock_manager.specs.declared.request.Rules.{Rules}
-use Rattle.lock_manager.specs.declared.request.Lock.{Lock}
-use Rattle.lock_manager.specs.declared.request.LkCmd.{LkCmd}
-use Rattle.lock_manager.specs.declared.request.LkCmd.TheVariants.{GetLk, SetLk, SetLkW, OGetLk, OSetLk, OSetLkW}
-use Rattle.lock_manager.specs.declared.request.FlockOp.{FlockOp}
-use Rattle.lock_manager.specs.declared.request.FlockOp.TheVariants.{Sh, Ex, Un}
-use Rattle.lock_manager.specs.declared.request.Errno.{Errno}
+use Rattle.session_core.proofs.Common.{arith, rules, ℕ, ◌≡◌, ◌≢◌, ◌≤◌, ◌⊎◌, inl, inr, refl, sym, ◌∙◌, ap, subst, Bool, true, false, List, [], ◌∷◌, ◌++◌, ⊎_elim, Any, Option, Some, None, MatchBool, MatchOption, common_steps, IsTrue, IsFalse, Contains, All-contains, All-from_recursion, Contains-append_left, Contains-append_right}
+use Rattle.session_core.proofs.Common.{Mode, Read, Write, flock_mode_in, Look, Queue, Wait, WaitsConflict, Rules, Lock, LkCmd, GetLk, SetLk, SetLkW, OGetLk, OSetLk, OSetLkW, FlockOp, Sh, Ex, Un, Errno, Request, OpenFile, Dup, DupTo, CloseFd, Seek, Resize, Lk, Flock, Fork, Exit, Signal, Kill, Enter, Leave, Bail, Note, Answer, Waits, State, opening_state, with_lock, with_flock_mode, Outcome, answered_then, refused, waits_then, LockComesTo, CommandComesTo, FlockComesTo, FlockOpComesTo, FlockModeComesTo, FlockTestComesTo, is_same_mode, wanted_flock, ComesTo, StepHasOneOutcome, Event, IsStep, Leads, IsRun, WouldWaitAs, IsOver}
+use Rattle.std.specs.List.{AllByRecursion as Each}
+use Rattle.wait_core.specs.Blocking.{IsBlocked}
 use Rattle.lock_manager.specs.declared.request.Errno.TheVariants.{EBADF}
-use Rattle.lock_manager.specs.declared.request.Request.{Request}
-use Rattle.lock_manager.specs.declared.request.Request.TheVariants.{OpenFile, Dup, DupTo, CloseFd, Seek, Resize, Lk, Flock, Fork, Exit, Signal, Kill, Enter, Leave, Bail}
-use Rattle.lock_manager.specs.declared.request.Note.{Note}
-use Rattle.lock_manager.specs.declared.request.Note.TheVariants.{Answer, Waits}
 use Rattle.lock_manager.specs.declared.request.Reply.TheVariants as replies
-use Rattle.lock_manager.specs.State.{State, opening_state, locks_held, with_lock, with_flock_mode}
-use Rattle.lock_manager.specs.Outcomes.{Outcome, answered_then, refused, waits_then}
+use Rattle.lock_manager.specs.State.{locks_held}
 use Rattle.lock_manager.specs.LockWords.{may_wait}
-use Rattle.lock_manager.specs.LockCommands.{LockComesTo, CommandComesTo}
-use Rattle.lock_manager.specs.FlockCalls.{FlockComesTo, FlockOpComesTo, FlockModeComesTo, FlockTestComesTo, is_same_mode, flock_wanted_mode, wanted_flock}
-use Rattle.lock_manager.specs.Step.{ComesTo}
-use Rattle.lock_manager.specs.OneOutcome.{StepHasOneOutcome}
-use Rattle.session_core.specs.Event.{Event}
-use Rattle.session_core.specs.Runs.{IsStep, Leads, IsRun}
+use Rattle.lock_manager.specs.FlockCalls.{flock_wanted_mode}
 use Rattle.lock_manager.specs.Asking.{AsksForBytes, AsksForWhole}
-use Rattle.session_core.specs.QueuePolicy.{WouldWaitAs, HasFlock, SetsAtOnce, IsTested, IsOver, notes_told, PassesNoneTold, NotesAreOfWaits, RequestsJoinTheQueue}
+use Rattle.session_core.specs.QueuePolicy.{HasFlock, SetsAtOnce, IsTested, notes_told, PassesNoneTold, NotesAreOfWaits, RequestsJoinTheQueue}
 use Rattle.session_core.proofs.tallies.Tally.{Each-append, Each-map, Contains-here}
 use Rattle.session_core.proofs.tallies.OutcomeLaws.{cases_fact, cases_bool}
 use Rattle.session_core.proofs.queue.AnyLemmas.{Any-here, Any-there}

@@ -1,32 +1,14 @@
 -- Under the queue policy waits that conflict are granted in turn.
-use Rattle.std.proofs.lemmas.Grind.{common_steps}
-use Rattle.std.proofs.Common.{ℕ, ◌≡◌, ◌≢◌, ◌+◌, ◌≤◌, ◌⊎◌, inl, inr, refl, sym, ◌∙◌, ap, subst, arith, eq-eqb, ne_eqb, length, append_assoc, List, [], ◌∷◌, ◌++◌, ⊎_elim, Option, Some, Result, Ok}
+use Rattle.session_core.proofs.Common.{common_steps, ℕ, ◌≡◌, ◌≢◌, ◌+◌, ◌≤◌, ◌⊎◌, inl, inr, refl, sym, ◌∙◌, ap, subst, arith, eq-eqb, ne_eqb, length, List, [], ◌∷◌, ◌++◌, ⊎_elim, Option, Some, Result, Ok, Contains, cases_eq, All-contains, All-from_recursion, Contains-append_left, Contains-append_right, IfSome_then}
+use Rattle.session_core.proofs.Common.{Queue, Wait, WaitsConflict, Rules, Lock, LkCmd, FlockOp, Request, Note, Answer, Waits, Reply, ProcState, State, opening_state, StepHasOneOutcome, Event, IsStep, Leads, IsRun, events_of, EndsProcess, WouldWaitAs, IsOver}
+use Rattle.std.proofs.Common.{append_assoc}
 use Rattle.std.specs.Prelude.{slice_get}
-use Rattle.std.specs.List.{Contains, AllByRecursion as Each}
-use Rattle.std.proofs.lemmas.Bool.{cases_eq}
+use Rattle.std.specs.List.{AllByRecursion as Each}
 use Rattle.std.proofs.lemmas.List.Concat.{flat_map-append}
-use Rattle.std.proofs.lemmas.List.Elements.{All-contains, All-from_recursion, Contains-append_left, Contains-append_right, Contains-append_cases}
-use Rattle.std.proofs.lemmas.Option.{IfSome_then}
-use Rattle.wait_core.specs.declared.Policy.TheVariants.{Queue}
-use Rattle.wait_core.specs.declared.Wait.{Wait}
-use Rattle.wait_core.specs.Blocking.{WaitsConflict}
-use Rattle.lock_manager.specs.declared.request.Rules.{Rules}
-use Rattle.lock_manager.specs.declared.request.Lock.{Lock}
-use Rattle.lock_manager.specs.declared.request.LkCmd.{LkCmd}
-use Rattle.lock_manager.specs.declared.request.FlockOp.{FlockOp}
-use Rattle.lock_manager.specs.declared.request.Request.{Request}
-use Rattle.lock_manager.specs.declared.request.Note.{Note}
-use Rattle.lock_manager.specs.declared.request.Note.TheVariants.{Answer, Waits}
-use Rattle.lock_manager.specs.declared.request.Reply.{Reply}
+use Rattle.std.proofs.lemmas.List.Elements.{Contains-append_cases}
 use Rattle.lock_manager.specs.declared.request.Reply.TheVariants as replies
-use Rattle.lock_manager.specs.declared.request.ProcState.{ProcState}
-use Rattle.lock_manager.specs.State.{State, opening_state}
-use Rattle.lock_manager.specs.OneOutcome.{StepHasOneOutcome}
-use Rattle.session_core.specs.Event.{Event}
-use Rattle.session_core.specs.Runs.{IsStep, Leads, IsRun, events_of}
-use Rattle.session_core.specs.Headline.{EndsProcess}
 use Rattle.lock_manager.specs.Asking.{AsksForBytes, AsksForWhole}
-use Rattle.session_core.specs.QueuePolicy.{WouldWaitAs, WaitsAs, IsOver, notes_told, GrantsAreInTurn}
+use Rattle.session_core.specs.QueuePolicy.{WaitsAs, notes_told, GrantsAreInTurn}
 use Rattle.session_core.proofs.tallies.Tally.{numbers_in, AreCountedFrom, Tallies, Tells, one_more, one_more-same, Each-map}
 use Rattle.session_core.proofs.tallies.Moves.{live_apart}
 use Rattle.session_core.proofs.tallies.StepLaws.{Step-tells}

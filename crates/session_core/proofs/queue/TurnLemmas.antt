@@ -1,23 +1,7 @@
 -- What becomes of a wait in the list, while others are granted.
-use Rattle.std.proofs.lemmas.Grind.{common_steps}
-use Rattle.std.proofs.Common.{ℕ, suc, ◌≡◌, ◌≢◌, ◌⊎◌, inl, inr, refl, sym, ◌∙◌, ap, subst, arith, List, [], ◌∷◌, ◌++◌, ⊎_elim, Some, length}
-use Rattle.std.specs.List.{Contains, AllByRecursion as Each}
-use Rattle.std.proofs.lemmas.Bool.{cases_eq}
-use Rattle.std.proofs.lemmas.List.Elements.{Contains-append_left, Contains-append_right}
-use Rattle.wait_core.specs.declared.Wait.{Wait}
-use Rattle.wait_core.specs.Blocking.{WaitsConflict}
-use Rattle.wait_core.specs.WaitsView.{wait_of, without_wait_of}
-use Rattle.lock_manager.specs.declared.request.Errno.TheVariants.{EINTR}
-use Rattle.lock_manager.specs.declared.request.Note.{Note}
-use Rattle.lock_manager.specs.declared.request.Note.TheVariants.{Answer, Waits}
+use Rattle.session_core.proofs.Common.{common_steps, ℕ, suc, ◌≡◌, ◌≢◌, ◌⊎◌, inl, inr, refl, sym, ◌∙◌, ap, subst, arith, List, [], ◌∷◌, ◌++◌, ⊎_elim, Some, length, Contains, cases_eq, Contains-append_left, Contains-append_right, Wait, WaitsConflict, wait_of, without_wait_of, EINTR, Note, Answer, Waits, ProcState, Live, Request, State, Event, EndsProcess, WouldWaitAs, IsOver}
+use Rattle.std.specs.List.{AllByRecursion as Each}
 use Rattle.lock_manager.specs.declared.request.Reply.TheVariants as replies
-use Rattle.lock_manager.specs.declared.request.ProcState.{ProcState}
-use Rattle.lock_manager.specs.declared.request.ProcState.TheVariants.{Live}
-use Rattle.lock_manager.specs.declared.request.Request.{Request}
-use Rattle.lock_manager.specs.State.{State}
-use Rattle.session_core.specs.Event.{Event}
-use Rattle.session_core.specs.Headline.{EndsProcess}
-use Rattle.session_core.specs.QueuePolicy.{WouldWaitAs, IsOver}
 use Rattle.session_core.proofs.tallies.Tally.{IsLastTaken, Each-append, None-contains, Contains-here}
 use Rattle.session_core.proofs.tallies.Moves.{found_wait}
 use Rattle.session_core.proofs.queue.AnyLemmas.{Any-here, Any-weaker}

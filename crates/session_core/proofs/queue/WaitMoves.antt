@@ -1,49 +1,18 @@
 -- What each event does to the list of waits, under the queue policy.
-use Rattle.std.proofs.Common.{arith, rules, ℕ, ◌≡◌, ◌≢◌, ◌⊎◌, inl, inr, refl, sym, ap, subst, append-nil, append_assoc, eq-eqb, ne_eqb, Bool, true, false, List, [], ◌∷◌, ◌++◌, ⊎_elim, Any, Option, Some, None, Result, Ok, Err, MatchBool, MatchOption, MatchResult}
-use Rattle.std.proofs.lemmas.Grind.{common_steps}
-use Rattle.std.specs.Prelude.{IsTrue, IsFalse, ◌||◌}
-use Rattle.std.proofs.lemmas.Bool.{cases_eq}
-use Rattle.range_core.specs.declared.Mode.{Mode}
-use Rattle.range_core.specs.declared.Mode.TheVariants.{Read, Write}
+use Rattle.session_core.proofs.Common.{arith, rules, ℕ, ◌≡◌, ◌≢◌, ◌⊎◌, inl, inr, refl, sym, ap, subst, eq-eqb, ne_eqb, Bool, true, false, List, [], ◌∷◌, ◌++◌, ⊎_elim, Any, Option, Some, None, Result, Ok, Err, MatchBool, MatchOption, MatchResult, common_steps, IsTrue, IsFalse, cases_eq}
+use Rattle.session_core.proofs.Common.{Mode, Read, Write, flock_mode_in, FdFault, Look, look_at, Policy, Queue, Wait, WaitsConflict, wait_of, without_wait_of, Rules, Lock, LkCmd, GetLk, SetLk, SetLkW, OGetLk, OSetLk, OSetLkW, FlockOp, Sh, Ex, Un, Errno, EINTR, Request, OpenFile, Dup, DupTo, CloseFd, Seek, Resize, Lk, Flock, Fork, Exit, Signal, Kill, Enter, Leave, Bail, Note, Answer, Waits, Reply, ProcState, Unborn, Live, Waiting, Ended, State, with_lock, with_flock_mode, with_process, Settles, granted, Outcome, answered, answered_then, refused, waits_then, IsRefusal, with_released, LockComesTo, CommandComesTo, FlockComesTo, FlockOpComesTo, FlockModeComesTo, FlockTestComesTo, is_same_mode, wanted_flock, without_wait, KillComesTo, ComesTo, Step, WouldWaitAs}
+use Rattle.std.proofs.Common.{append-nil, append_assoc}
+use Rattle.std.specs.Prelude.{◌||◌}
 use Rattle.range_core.specs.declared.Span.{Span}
 use Rattle.range_core.specs.Resolving.{resolution}
-use Rattle.lock_book.specs.Changes.{flock_mode_in}
-use Rattle.fd_table.specs.declared.FdFault.{FdFault}
-use Rattle.fd_table.specs.declared.tables.Look.{Look}
-use Rattle.fd_table.specs.Descriptors.{look_at}
-use Rattle.wait_core.specs.declared.Policy.{Policy}
-use Rattle.wait_core.specs.declared.Policy.TheVariants.{Queue}
-use Rattle.wait_core.specs.declared.Wait.{Wait}
 use Rattle.wait_core.specs.Locks.{Locks}
-use Rattle.wait_core.specs.Blocking.{WaitsConflict, IsBlocked}
-use Rattle.wait_core.specs.WaitsView.{wait_of, without_wait_of}
-use Rattle.lock_manager.specs.declared.request.Rules.{Rules}
-use Rattle.lock_manager.specs.declared.request.Lock.{Lock}
-use Rattle.lock_manager.specs.declared.request.LkCmd.{LkCmd}
-use Rattle.lock_manager.specs.declared.request.LkCmd.TheVariants.{GetLk, SetLk, SetLkW, OGetLk, OSetLk, OSetLkW}
-use Rattle.lock_manager.specs.declared.request.FlockOp.{FlockOp}
-use Rattle.lock_manager.specs.declared.request.FlockOp.TheVariants.{Sh, Ex, Un}
-use Rattle.lock_manager.specs.declared.request.Errno.{Errno}
-use Rattle.lock_manager.specs.declared.request.Errno.TheVariants.{EINTR, EINVAL}
-use Rattle.lock_manager.specs.declared.request.Request.{Request}
-use Rattle.lock_manager.specs.declared.request.Request.TheVariants.{OpenFile, Dup, DupTo, CloseFd, Seek, Resize, Lk, Flock, Fork, Exit, Signal, Kill, Enter, Leave, Bail}
-use Rattle.lock_manager.specs.declared.request.Note.{Note}
-use Rattle.lock_manager.specs.declared.request.Note.TheVariants.{Answer, Waits}
-use Rattle.lock_manager.specs.declared.request.Reply.{Reply}
+use Rattle.wait_core.specs.Blocking.{IsBlocked}
+use Rattle.lock_manager.specs.declared.request.Errno.TheVariants.{EINVAL}
 use Rattle.lock_manager.specs.declared.request.Reply.TheVariants as replies
-use Rattle.lock_manager.specs.declared.request.ProcState.{ProcState}
-use Rattle.lock_manager.specs.declared.request.ProcState.TheVariants.{Unborn, Live, Waiting, Ended}
-use Rattle.lock_manager.specs.State.{State, with_lock, with_flock_mode, with_process}
-use Rattle.lock_manager.specs.Settling.{Settles, granted}
-use Rattle.lock_manager.specs.Outcomes.{Outcome, answered, answered_then, refused, waits_then, IsRefusal}
-use Rattle.lock_manager.specs.DescriptorCalls.{with_released}
 use Rattle.lock_manager.specs.LockWords.{is_get, may_wait, wanted_mode, permits, wanted_lock}
-use Rattle.lock_manager.specs.LockCommands.{GetComesTo, LockComesTo, DescribedComesTo, RangeComesTo, ModeComesTo, CommandComesTo}
-use Rattle.lock_manager.specs.FlockCalls.{FlockComesTo, FlockOpComesTo, FlockModeComesTo, FlockTestComesTo, is_same_mode, wanted_flock}
+use Rattle.lock_manager.specs.LockCommands.{GetComesTo, DescribedComesTo, RangeComesTo, ModeComesTo}
 use Rattle.lock_manager.specs.Sections.{may_enter, may_leave, marked}
-use Rattle.lock_manager.specs.ProcessCalls.{EndComesTo, without_wait, SignalComesTo, KillOtherComesTo, KillComesTo}
-use Rattle.lock_manager.specs.Step.{ComesTo, Step}
-use Rattle.session_core.specs.QueuePolicy.{WouldWaitAs}
+use Rattle.lock_manager.specs.ProcessCalls.{EndComesTo, SignalComesTo, KillOtherComesTo}
 use Rattle.session_core.proofs.tallies.OutcomeLaws.{cases_fact, cases_bool}
 use Rattle.session_core.proofs.tallies.Moves.{SameProcesses-lock}
 use Rattle.session_core.proofs.queue.WaitPlaces.{Passes, Passes-then}

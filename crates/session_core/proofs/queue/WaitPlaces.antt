@@ -1,13 +1,6 @@
 -- A wait in the list of waits: what stands before it and behind it, while others join and leave.
-use Rattle.std.proofs.Common.{arith, ℕ, ◌≡◌, ◌≢◌, ◌⊎◌, inl, inr, refl, sym, ◌∙◌, ap, subst, ne_eqb, List, [], ◌∷◌, ◌++◌, ⊎_elim, Any}
-use Rattle.std.proofs.lemmas.Grind.{common_steps}
+use Rattle.session_core.proofs.Common.{arith, ℕ, ◌≡◌, ◌≢◌, ◌⊎◌, inl, inr, refl, sym, ◌∙◌, ap, subst, ne_eqb, List, [], ◌∷◌, ◌++◌, ⊎_elim, Any, common_steps, cases_eq, Wait, without_wait_of, WaitsConflict, Note, Answer}
 use Rattle.std.specs.List.{AllByRecursion as Each}
-use Rattle.std.proofs.lemmas.Bool.{cases_eq}
-use Rattle.wait_core.specs.declared.Wait.{Wait}
-use Rattle.wait_core.specs.WaitsView.{without_wait_of}
-use Rattle.wait_core.specs.Blocking.{WaitsConflict}
-use Rattle.lock_manager.specs.declared.request.Note.{Note}
-use Rattle.lock_manager.specs.declared.request.Note.TheVariants.{Answer}
 use Rattle.lock_manager.specs.declared.request.Reply.TheVariants as replies
 use Rattle.session_core.proofs.tallies.Tally.{Each-append, Each-map, Each-middle}
 use Rattle.session_core.proofs.tallies.Moves.{without_wait-each}

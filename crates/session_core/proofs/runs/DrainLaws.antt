@@ -1,18 +1,7 @@
 -- A list of arrivals has one drain, since a step has one outcome: for `arrivals_have_one_drain`.
-use Rattle.std.proofs.lemmas.Grind.{common_steps}
-use Rattle.std.proofs.Common.{ℕ, ◌≡◌, ◌+◌, ◌<◌, refl, sym, ◌∙◌, ap, subst, arith, length, List, [], ◌∷◌, ◌++◌, append-nil, append_assoc, Option, Some}
-use Rattle.std.specs.Prelude.{IsNone}
-use Rattle.std.proofs.lemmas.Bool.{cases_lt}
-use Rattle.lock_manager.specs.declared.request.Rules.{Rules}
-use Rattle.lock_manager.specs.declared.request.Request.{Request}
-use Rattle.lock_manager.specs.declared.request.ProcState.{ProcState}
-use Rattle.lock_manager.specs.State.{State, opening_state}
-use Rattle.lock_manager.specs.Step.{Step}
-use Rattle.lock_manager.specs.OneOutcome.{StepHasOneOutcome}
-use Rattle.session_core.specs.Event.{Event}
-use Rattle.session_core.specs.Runs.{IsStep, events_of}
-use Rattle.session_core.specs.Mail.{requests_sent}
-use Rattle.session_core.specs.Draining.{next_untaken, IsDrained, IsNext, DrainsMail, DrainsFrom}
+use Rattle.session_core.proofs.Common.{common_steps, ℕ, ◌≡◌, ◌+◌, ◌<◌, refl, sym, ◌∙◌, ap, subst, arith, length, List, [], ◌∷◌, ◌++◌, Option, Some, IsNone, cases_lt, Rules, Request, ProcState, State, opening_state, Step, StepHasOneOutcome, Event, IsStep, events_of, requests_sent, next_untaken, IsDrained, IsNext}
+use Rattle.std.proofs.Common.{append-nil, append_assoc}
+use Rattle.session_core.specs.Draining.{DrainsMail, DrainsFrom}
 use Rattle.session_core.specs.OneDrain.{ArrivalsHaveOneDrain}
 
 no_mail : (mail : Option Request) (request : Request) → mail ≡ Some request → IsNone mail → ⊥

@@ -1,18 +1,7 @@
 -- Draining: one more event taken, and one more arrival; for `Sequencer::deliver` and `run_all`.
-use Rattle.std.proofs.lemmas.Grind.{common_steps}
-use Rattle.std.proofs.Common.{rules, ℕ, suc, ◌≡◌, ◌+◌, ◌<◌, refl, sym, ◌∙◌, ap, subst, arith, eq-eqb, length, length-append, List, [], ◌∷◌, ◌++◌, Result, Err, get_or, take, drop}
-use Rattle.std.specs.Prelude.{◌==◌, if◌then◌else◌}
-use Rattle.std.proofs.lemmas.Bool.{cases_eq}
-use Rattle.std.proofs.lemmas.List.{append-nil, append_assoc, map-append, take-append-drop, drop_more}
-use Rattle.std.proofs.lemmas.List.Elements.{filter-append}
-use Rattle.lock_manager.specs.declared.request.Rules.{Rules}
-use Rattle.lock_manager.specs.declared.request.Request.{Request}
-use Rattle.lock_manager.specs.declared.request.ProcState.{ProcState}
-use Rattle.lock_manager.specs.State.{State, opening_state}
-use Rattle.session_core.specs.Event.{Event}
-use Rattle.session_core.specs.Runs.{IsStep}
-use Rattle.session_core.specs.Mail.{requests_sent}
-use Rattle.session_core.specs.Draining.{IsNext, IsDrained, TakesMail, DrainsMail, DrainsFrom, IsDrain}
+use Rattle.session_core.proofs.Common.{common_steps, rules, ℕ, suc, ◌≡◌, ◌+◌, ◌<◌, refl, sym, ◌∙◌, ap, subst, arith, eq-eqb, length, length-append, List, [], ◌∷◌, ◌++◌, Result, Err, get_or, take, drop, ◌==◌, if◌then◌else◌, cases_eq, append-nil, append_assoc, map-append, filter-append, Rules, Request, ProcState, State, opening_state, Event, IsStep, requests_sent, IsNext, IsDrained}
+use Rattle.std.proofs.lemmas.List.{take-append-drop, drop_more}
+use Rattle.session_core.specs.Draining.{TakesMail, DrainsMail, DrainsFrom, IsDrain}
 
 -- what is next doesn't depend on how the states, the mail and the events are written
 pub IsNext-along : (states states' : ℕ → ProcState) (sent sent' : ℕ → List Request) (events events' : List Event) (event : Event)

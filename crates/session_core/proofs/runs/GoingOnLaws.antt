@@ -1,10 +1,6 @@
 -- Every run goes on, whatever a live process requests: for `every_run_goes_on`.
-use Rattle.std.proofs.Common.{ℕ, ◌+◌, refl, sym, subst, length, List, [], ◌∷◌}
-use Rattle.lock_manager.specs.declared.request.Rules.{Rules}
-use Rattle.lock_manager.specs.State.{State, opening_state}
+use Rattle.session_core.proofs.Common.{ℕ, ◌+◌, refl, sym, subst, length, List, [], ◌∷◌, Rules, State, opening_state, Event, Leads, events_of}
 use Rattle.lock_manager.specs.SomeOutcome.{IsWhole, StepHasSomeOutcome}
-use Rattle.session_core.specs.Event.{Event}
-use Rattle.session_core.specs.Runs.{Leads, events_of}
 use Rattle.session_core.specs.GoingOn.{EveryRunGoesOn}
 use Rattle.session_core.proofs.LeadsLemmas.{Leads-push}
 use Rattle.session_core.proofs.runs.JournalLemmas.{AreNumbered-push}

@@ -1,22 +1,15 @@
 -- The headline, from what a session keeps: its journal is a run whose state the manager stands for; for `Replay::answered`, `Session::arrive`,
 -- `check_journal` and others.
-use Rattle.std.proofs.Common.{rules, ℕ, ◌≡◌, ◌+◌, ◌<◌, ◌≤◌, ◌⊎◌, sym, ◌∙◌, ap, subst, arith, length, List, ◌∷◌, ◌++◌, ⊎_elim, Option, Some, None, IfSome, IfNone, All, map, slice_get, option_map}
-use Rattle.std.proofs.lemmas.Grind.{common_steps}
+use Rattle.session_core.proofs.Common.{rules, ℕ, ◌≡◌, ◌+◌, ◌<◌, ◌≤◌, ◌⊎◌, sym, ◌∙◌, ap, subst, arith, length, List, ◌∷◌, ◌++◌, ⊎_elim, Option, Some, None, IfSome, All, slice_get, common_steps, cases_lt, length-map, All-from_recursion, IfSome_then}
+use Rattle.session_core.proofs.Common.{Request, ProcState, Manager, State, opening_state, rules_of, processes_of, state_at, Event, Leads, events_of, requests_taken, answers_to, IsWaiting, IsEnded, told_process, Holds}
+use Rattle.std.proofs.Common.{IfNone, map, option_map}
 use Rattle.std.specs.List.{AllByRecursion as Each}
-use Rattle.std.proofs.lemmas.Bool.{cases_lt}
-use Rattle.std.proofs.lemmas.List.{length-map, nil_from_length}
-use Rattle.std.proofs.lemmas.List.Elements.{All-from_recursion}
-use Rattle.std.proofs.lemmas.Option.{slice_get_within, IfSome_then}
-use Rattle.lock_manager.specs.declared.request.Request.{Request}
-use Rattle.lock_manager.specs.declared.request.ProcState.{ProcState}
-use Rattle.lock_manager.specs.declared.manager.Manager.{Manager}
-use Rattle.lock_manager.specs.State.{State, opening_state}
-use Rattle.lock_manager.specs.ManagerView.{IsSafeManager, rules_of, processes_of, state_at}
-use Rattle.session_core.specs.Event.{Event}
-use Rattle.session_core.specs.Runs.{Leads, events_of}
-use Rattle.session_core.specs.Mail.{IsPrefixOf, requests_taken, answers_to, reply_to}
+use Rattle.std.proofs.lemmas.List.{nil_from_length}
+use Rattle.std.proofs.lemmas.Option.{slice_get_within}
+use Rattle.lock_manager.specs.ManagerView.{IsSafeManager}
+use Rattle.session_core.specs.Mail.{IsPrefixOf, reply_to}
 use Rattle.session_core.specs.Draining.{IsReplayed}
-use Rattle.session_core.specs.Headline.{IsWaiting, IsEnded, told_process, LeavesAlone, IsQuietBeforeBirth, IsQuietAfterEnd, IsAnsweredInTurn, AreWithinLimits, Holds}
+use Rattle.session_core.specs.Headline.{LeavesAlone, IsQuietBeforeBirth, IsQuietAfterEnd, IsAnsweredInTurn, AreWithinLimits}
 use Rattle.session_core.proofs.tallies.Tally.{AreCountedFrom, TallyAt, Each-map}
 use Rattle.session_core.proofs.runs.RunLaws.{numbers_of, AreNext, AreNext-numbered, IsTallied, Leads-tallied, Leads-quiet_after, opening_tallies, answers_from-numbers, IsStrictlyIncreasing-counted, counted_answers, found_answer}
 

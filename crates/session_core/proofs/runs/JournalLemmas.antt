@@ -1,26 +1,16 @@
 -- A journal with one more event: for `Session::arrive`, `Session::new`, `Session::take` and `Session::withdraw`.
-use Rattle.std.proofs.Common.{rules, ℕ, zero, suc, ◌≡◌, ◌≢◌, ◌+◌, ◌<◌, ◌≤◌, refl, sym, ◌∙◌, ap, subst, arith, eq-eqb, ne_eqb, length, length-append, set, List, [], ◌∷◌, ◌++◌, ⊎_elim, Option, Some, None, IfSome, All, slice_get, drop}
-use Rattle.std.proofs.lemmas.Grind.{common_steps}
-use Rattle.std.specs.Prelude.{◌==◌, if◌then◌else◌, IsNone}
+use Rattle.session_core.proofs.Common.{rules, ℕ, zero, suc, ◌≡◌, ◌≢◌, ◌+◌, ◌<◌, ◌≤◌, refl, sym, ◌∙◌, ap, subst, arith, eq-eqb, ne_eqb, length, length-append, set, List, [], ◌∷◌, ◌++◌, ⊎_elim, Option, Some, None, IfSome, All, slice_get, drop, common_steps, ◌==◌, if◌then◌else◌, IsNone, cases_eq, length-map, length-set, map-append, append_assoc, append-nil, filter-append, ∥∥₁_map}
+use Rattle.session_core.proofs.Common.{Request, Manager, State, opening_state, StandsFor, rules_of, processes_of, Mailbox, Event, AreLastAnswers, AreTold, mail_waiting, mail_sent, mail_taken, taken_in, IsMailKept, IsEmptyMailbox, IsStep, IsRun, events_of, requests_taken, next_untaken, Holds, request_limit}
 use Rattle.std.specs.List.{AllByRecursion as Each}
-use Rattle.std.proofs.lemmas.Bool.{cases_eq}
-use Rattle.std.proofs.lemmas.List.{length-map, length-set, map-append, append_assoc, append-nil}
-use Rattle.std.proofs.lemmas.List.Elements.{filter-append, recursion_from_All}
-use Rattle.lock_manager.specs.declared.request.Request.{Request}
-use Rattle.lock_manager.specs.declared.manager.Manager.{Manager}
-use Rattle.lock_manager.specs.State.{State, opening_state}
-use Rattle.lock_manager.specs.ManagerView.{StandsFor, SameManager, IsSafeManager, rules_of, processes_of}
-use Rattle.session_core.specs.declared.mailbox.Mailbox.{Mailbox}
-use Rattle.session_core.specs.Event.{Event}
+use Rattle.std.proofs.lemmas.List.Elements.{recursion_from_All}
+use Rattle.lock_manager.specs.ManagerView.{SameManager, IsSafeManager}
 use Rattle.session_core.specs.declared.answers.LastAnswers.{LastAnswers}
-use Rattle.session_core.specs.LastAnswers.{AreLastAnswers}
-use Rattle.session_core.specs.Told.{AreTold, IsServed}
-use Rattle.std.proofs.Math.Logic.{∥∥₁_map}
-use Rattle.session_core.specs.Mailboxes.{mail_waiting, mail_sent, mail_taken, waiting_in, taken_in, IsMailKept, IsEmptyMailbox}
-use Rattle.session_core.specs.Runs.{IsStep, IsRun, AreNumbered, events_of}
-use Rattle.session_core.specs.Mail.{IsPrefixOf, requests_taken}
-use Rattle.session_core.specs.Draining.{IsReplayed, next_untaken}
-use Rattle.session_core.specs.Headline.{AreWithinLimits, Holds, request_limit}
+use Rattle.session_core.specs.Told.{IsServed}
+use Rattle.session_core.specs.Mailboxes.{waiting_in}
+use Rattle.session_core.specs.Runs.{AreNumbered}
+use Rattle.session_core.specs.Mail.{IsPrefixOf}
+use Rattle.session_core.specs.Draining.{IsReplayed}
+use Rattle.session_core.specs.Headline.{AreWithinLimits}
 use Rattle.session_core.proofs.runs.HeadlineLaws.{Holds-from}
 use Rattle.session_core.proofs.LeadsLemmas.{Leads-push}
 use Rattle.session_core.proofs.MailLemmas.{StandsAt, mailbox_of-there, mail_waiting-set, mail_waiting-kept, mail_taken-set, length-mail_sent, next_untaken-waits, next_untaken-more, none_waits, all_taken}

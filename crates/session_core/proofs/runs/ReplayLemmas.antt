@@ -1,28 +1,16 @@
 -- Runs made again: their fronts, the one state that they leave, and one more event; for `Replay::answered`, `check_journal`,
 -- `JournalChecker::manager` and others.
-use Rattle.std.proofs.lemmas.Grind.{common_steps}
-use Rattle.std.proofs.Common.{rules, ℕ, zero, suc, ◌≡◌, ◌≢◌, ◌+◌, ◌-◌, ◌<◌, ◌≤◌, None, refl, sym, ◌∙◌, ap, subst, arith, length, List, [], ◌∷◌, ◌++◌, ⊎_elim, Some, IfSome, slice_get, get_or, set, get_or-set_same, get_or-set_other, replicate, take, drop, length-append}
-use Rattle.std.specs.Prelude.{◌==◌}
+use Rattle.session_core.proofs.Common.{common_steps, rules, ℕ, zero, suc, ◌≡◌, ◌≢◌, ◌+◌, ◌-◌, ◌<◌, ◌≤◌, None, refl, sym, ◌∙◌, ap, subst, arith, length, List, [], ◌∷◌, ◌++◌, ⊎_elim, Some, IfSome, slice_get, get_or, set, take, drop, length-append, ◌==◌, cases_eq, cases_lt, append_assoc, filter-append}
+use Rattle.session_core.proofs.Common.{Rules, Note, Unborn, State, opening_state, Step, StepHasOneOutcome, StandsFor, rules_of, processes_of, Event, IsStep, IsRun, events_of, answers_in, answers_to, latest, last_of, processes_in}
+use Rattle.std.proofs.Common.{get_or-set_same, get_or-set_other, replicate}
 use Rattle.std.specs.declared.vec.Vec.{Vec}
 use Rattle.std.specs.declared.alloc.Global.{Global}
-use Rattle.std.proofs.lemmas.Bool.{cases_eq, cases_lt}
-use Rattle.std.proofs.lemmas.List.{append_assoc, take-append-drop, take_more}
-use Rattle.std.proofs.lemmas.List.Elements.{filter-append}
-use Rattle.lock_manager.specs.declared.request.Rules.{Rules}
-use Rattle.lock_manager.specs.declared.request.Note.{Note}
-use Rattle.lock_manager.specs.declared.request.ProcState.TheVariants.{Unborn}
-use Rattle.lock_manager.specs.State.{State, opening_state}
-use Rattle.lock_manager.specs.Step.{Step}
-use Rattle.lock_manager.specs.OneOutcome.{StepHasOneOutcome}
-use Rattle.lock_manager.specs.ManagerView.{StandsFor, rules_of, processes_of}
+use Rattle.std.proofs.lemmas.List.{take-append-drop, take_more}
 use Rattle.session_core.specs.declared.check.Replay.{Replay}
-use Rattle.session_core.specs.Event.{Event}
-use Rattle.session_core.specs.Runs.{IsStep, IsRun, AreNumbered, events_of}
+use Rattle.session_core.specs.Runs.{AreNumbered}
 use Rattle.session_core.specs.declared.check.Expected.{Expected}
 use Rattle.session_core.specs.declared.check.Expected.TheVariants.{Notes}
 use Rattle.session_core.specs.Legality.{WouldHave}
-use Rattle.session_core.specs.Mail.{answers_in, answers_to}
-use Rattle.session_core.specs.LastAnswers.{latest, last_of, processes_in}
 use Rattle.session_core.specs.Checking.{IsAfter}
 use Rattle.session_core.specs.Replaying.{HasMade, IsNextOf, IsOutOfTurn, Makes, Repeats, count_of}
 use Rattle.session_core.proofs.tallies.Tally.{Tallies}

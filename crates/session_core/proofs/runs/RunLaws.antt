@@ -1,24 +1,11 @@
 -- What holds of every run: numbers, answers in turn, and quiet after an end; for `Replay::answered`, `check_journal`, `JournalChecker::manager` and
 -- others.
-use Rattle.std.proofs.lemmas.Grind.{common_steps}
-use Rattle.std.proofs.Common.{ℕ, zero, suc, ◌≡◌, ◌≢◌, ◌+◌, ◌<◌, ◌≤◌, refl, sym, ◌∙◌, ap, subst, arith, eq-eqb, length, length-append, List, [], ◌∷◌, ◌++◌, Some, IfSome, map, find, slice_get, get_or}
-use Rattle.std.specs.Prelude.{◌==◌}
+use Rattle.session_core.proofs.Common.{common_steps, ℕ, zero, suc, ◌≡◌, ◌≢◌, ◌+◌, ◌<◌, ◌≤◌, refl, sym, ◌∙◌, ap, subst, arith, eq-eqb, length, length-append, List, [], ◌∷◌, ◌++◌, Some, IfSome, slice_get, get_or, ◌==◌, cases_eq, map-append, All-from_recursion, IfSome_then, Rules, Reply, Note, Answer, Waits, State, opening_state, Event, Leads, events_of, answers_in, answers_from, IsEnded, told_process, EndsProcess}
+use Rattle.std.proofs.Common.{map, find}
 use Rattle.std.specs.List.{AllByRecursion as Each}
 use Rattle.std.specs.List.Sorted.{IsStrictlyIncreasing}
-use Rattle.std.proofs.lemmas.Bool.{cases_eq}
-use Rattle.std.proofs.lemmas.List.{map-append}
-use Rattle.std.proofs.lemmas.List.Elements.{All-from_recursion}
-use Rattle.std.proofs.lemmas.Option.{IfSome_then}
 use Rattle.fd_table.specs.Descriptors.{opening_descriptors}
-use Rattle.lock_manager.specs.declared.request.Rules.{Rules}
-use Rattle.lock_manager.specs.declared.request.Reply.{Reply}
-use Rattle.lock_manager.specs.declared.request.Note.{Note}
-use Rattle.lock_manager.specs.declared.request.Note.TheVariants.{Answer, Waits}
-use Rattle.lock_manager.specs.State.{State, opening_state}
-use Rattle.session_core.specs.Event.{Event}
-use Rattle.session_core.specs.Runs.{Leads, events_of}
-use Rattle.session_core.specs.Mail.{answers_in, answers_from}
-use Rattle.session_core.specs.Headline.{IsEnded, told_process, EndsProcess, LeavesAlone}
+use Rattle.session_core.specs.Headline.{LeavesAlone}
 use Rattle.session_core.proofs.tallies.Tally.{numbers_in, AreCountedFrom, AreCountedFrom-append, Tallies, Tallies-along, one_more}
 use Rattle.session_core.proofs.tallies.StepLaws.{Step-tells, Step-ends}
 

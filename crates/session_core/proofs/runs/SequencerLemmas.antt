@@ -1,20 +1,13 @@
 -- What a sequencer takes, one event after another, and with one arrival more: for `Sequencer::deliver`, `drain` and `run_all`.
-use Rattle.std.proofs.lemmas.Grind.{common_steps}
-use Rattle.std.proofs.Common.{rules, ℕ, zero, suc, ◌≡◌, ◌+◌, ◌-◌, ◌<◌, ◌≤◌, refl, sym, ◌∙◌, ap, subst, arith, eq-eqb, ne_eqb, length, List, [], ◌∷◌, ◌++◌, Some, drop, take, slice_get, get_or, ⊎_elim, inr, Result, Ok, Err, OnErr}
-use Rattle.std.specs.Prelude.{◌==◌, ◌⊎◌, if◌then◌else◌, IsNone}
-use Rattle.std.proofs.lemmas.Bool.{cases_eq}
-use Rattle.std.proofs.lemmas.List.{append-nil, append_assoc, length-drop, take_all, take_more}
-use Rattle.lock_manager.specs.declared.request.Rules.{Rules}
-use Rattle.lock_manager.specs.declared.request.Request.{Request}
-use Rattle.lock_manager.specs.declared.request.ProcState.TheVariants.{Live}
-use Rattle.lock_manager.specs.ManagerView.{StandsFor, rules_of, processes_of, state_at}
+use Rattle.session_core.proofs.Common.{common_steps, rules, ℕ, zero, suc, ◌≡◌, ◌+◌, ◌-◌, ◌<◌, ◌≤◌, refl, sym, ◌∙◌, ap, subst, arith, eq-eqb, ne_eqb, length, List, [], ◌∷◌, ◌++◌, Some, drop, take, slice_get, get_or, ⊎_elim, inr, Result, Ok, Err, ◌==◌, if◌then◌else◌, IsNone, cases_eq, append-nil, append_assoc}
+use Rattle.session_core.proofs.Common.{Rules, Request, Live, StandsFor, rules_of, processes_of, state_at, Event, events_of, requests_sent, next_untaken, IsNext, IsDrained, manager_in, sent_by, waiting_at, HasTold, HasNoMail, HasRun}
+use Rattle.std.proofs.Common.{OnErr}
+use Rattle.std.specs.Prelude.{◌⊎◌}
+use Rattle.std.proofs.lemmas.List.{length-drop, take_all, take_more}
 use Rattle.session_core.specs.declared.sequencer.Sequencer.{Sequencer}
-use Rattle.session_core.specs.Event.{Event}
-use Rattle.session_core.specs.Runs.{events_of}
-use Rattle.session_core.specs.Mail.{requests_sent}
-use Rattle.session_core.specs.Draining.{next_untaken, IsNext, IsDrained, TakesMail}
-use Rattle.session_core.specs.SequencerView.{manager_in, sent_by, waiting_at, first_waiting, HasTold, HasNoMail, HasNoneWaitingBelow, Tells, TellsOf, sent_with}
-use Rattle.session_core.specs.Deliveries.{TakesOf, TellsSome, Delivers, DeliversNothing, HasRun, RunsOn}
+use Rattle.session_core.specs.Draining.{TakesMail}
+use Rattle.session_core.specs.SequencerView.{first_waiting, HasNoneWaitingBelow, Tells, TellsOf, sent_with}
+use Rattle.session_core.specs.Deliveries.{TakesOf, TellsSome, Delivers, DeliversNothing, RunsOn}
 use Rattle.session_core.proofs.MailLemmas.{next_untaken-waits, next_untaken-more, all_taken}
 use Rattle.session_core.proofs.runs.DrainLemmas.{IsNext-along, IsDrained-along, DrainsMail-along, TakesMail-push, IsDrain-push, requests_sent-push}
 

@@ -1,18 +1,13 @@
 -- What the calls on descriptors come to.
-use Rattle.std.proofs.Common.{arith, ℕ, ℤ, ◌≡◌, refl, Result, Ok, Err, OnOk, MatchResult}
-use Rattle.std.proofs.lemmas.Grind.{common_steps}
-use Rattle.fd_table.specs.declared.FdFault.{FdFault}
+use Rattle.session_core.proofs.Common.{arith, ℕ, ◌≡◌, refl, Result, Ok, Err, MatchResult, common_steps, FdFault, Rules, Reply, State, Outcome, IsRefusal, answered, with_released}
+use Rattle.std.proofs.Common.{ℤ, OnOk}
 use Rattle.fd_table.specs.declared.Limits.{Limits}
 use Rattle.fd_table.specs.declared.Access.{Access}
 use Rattle.fd_table.specs.Releases.{Released}
 use Rattle.fd_table.specs.Descriptors.{Descriptors}
 use Rattle.fd_table.specs.Calls.{OpenGives, DupGives, DupToGives, CloseGives, SeekGives, ResizeGives}
-use Rattle.lock_manager.specs.declared.request.Rules.{Rules}
-use Rattle.lock_manager.specs.declared.request.Reply.{Reply}
 use Rattle.lock_manager.specs.declared.request.Reply.TheVariants as replies
-use Rattle.lock_manager.specs.State.{State}
-use Rattle.lock_manager.specs.Outcomes.{Outcome, IsRefusal, answered}
-use Rattle.lock_manager.specs.DescriptorCalls.{OpenComesTo, DupComesTo, DupToComesTo, CloseComesTo, SeekComesTo, ResizeComesTo, with_released}
+use Rattle.lock_manager.specs.DescriptorCalls.{OpenComesTo, DupComesTo, DupToComesTo, CloseComesTo, SeekComesTo, ResizeComesTo}
 use Rattle.session_core.proofs.tallies.OutcomeLaws.{IsAtHand, IsTold, told_answer, told_refusal, cases_bool}
 
 -- the same processes are alive

@@ -1,29 +1,9 @@
 -- What flock comes to.
-use Rattle.std.proofs.Common.{arith, ℕ, ◌≡◌, ◌+◌, refl, sym, ◌∙◌, ap, subst, Bool, true, false, length, List, [], ◌∷◌, ◌++◌, ⊎_elim, Option, Some, None}
-use Rattle.std.proofs.lemmas.Grind.{common_steps}
+use Rattle.session_core.proofs.Common.{arith, ℕ, ◌≡◌, ◌+◌, refl, sym, ◌∙◌, ap, subst, Bool, true, false, length, List, [], ◌∷◌, ◌++◌, ⊎_elim, Option, Some, None, common_steps, append-nil}
+use Rattle.session_core.proofs.Common.{Mode, Read, Write, flock_mode_in, Look, look_at, Policy, Wait, Rules, FlockOp, Sh, Ex, Un, Note, Answer, Waits, Reply, ProcState, Live, Waiting, State, with_flock_mode, with_lock, with_process, Settles, granted, Outcome, answered, answered_then, waits_then, FlockComesTo, FlockOpComesTo, FlockModeComesTo, FlockTestComesTo, is_same_mode, wanted_flock}
 use Rattle.std.specs.List.{AllByRecursion as Each}
-use Rattle.std.proofs.lemmas.List.{append-nil}
-use Rattle.range_core.specs.declared.Mode.{Mode}
-use Rattle.range_core.specs.declared.Mode.TheVariants.{Read, Write}
-use Rattle.lock_book.specs.Changes.{flock_mode_in}
-use Rattle.fd_table.specs.declared.tables.Look.{Look}
-use Rattle.fd_table.specs.Descriptors.{look_at}
-use Rattle.wait_core.specs.declared.Policy.{Policy}
-use Rattle.wait_core.specs.declared.Wait.{Wait}
-use Rattle.lock_manager.specs.declared.request.Rules.{Rules}
-use Rattle.lock_manager.specs.declared.request.FlockOp.{FlockOp}
-use Rattle.lock_manager.specs.declared.request.FlockOp.TheVariants.{Sh, Ex, Un}
-use Rattle.lock_manager.specs.declared.request.Note.{Note}
-use Rattle.lock_manager.specs.declared.request.Note.TheVariants.{Answer, Waits}
 use Rattle.lock_manager.specs.declared.request.Errno.TheVariants.{EAGAIN}
-use Rattle.lock_manager.specs.declared.request.Reply.{Reply}
 use Rattle.lock_manager.specs.declared.request.Reply.TheVariants as replies
-use Rattle.lock_manager.specs.declared.request.ProcState.{ProcState}
-use Rattle.lock_manager.specs.declared.request.ProcState.TheVariants.{Live, Waiting}
-use Rattle.lock_manager.specs.State.{State, with_flock_mode, with_lock, with_process}
-use Rattle.lock_manager.specs.Settling.{Settles, granted}
-use Rattle.lock_manager.specs.Outcomes.{Outcome, answered, answered_then, waits_then}
-use Rattle.lock_manager.specs.FlockCalls.{FlockComesTo, FlockOpComesTo, FlockModeComesTo, FlockTestComesTo, is_same_mode, wanted_flock}
 use Rattle.session_core.proofs.tallies.Tally.{numbers_in, Tallies, Tells, MovesOne-tells, Tells-then, Tallies-along, numbers_in-append, one_more, Each-middle}
 use Rattle.session_core.proofs.tallies.Moves.{SameProcesses, SameProcesses-refl, SameProcesses-lock, Settles-tells, nothing_told, tallies_kept, wait_moves}
 use Rattle.session_core.proofs.tallies.OutcomeLaws.{IsAtHand, IsTold, told_answer, told_here, cases_fact, cases_bool, cases_option}

@@ -1,23 +1,14 @@
 -- What the lock commands of fcntl come to.
-use Rattle.std.proofs.Common.{ℕ, ◌≡◌, refl, Bool, true, false, [], ⊎_elim, None}
+use Rattle.session_core.proofs.Common.{ℕ, ◌≡◌, refl, Bool, true, false, [], ⊎_elim, None, Mode, Look, look_at, Wait, Rules, Lock, LkCmd, GetLk, SetLk, SetLkW, OGetLk, OSetLk, OSetLkW, State, Outcome, refused, LockComesTo, CommandComesTo, FlockTestComesTo}
 use Rattle.std.specs.Prelude.{◌||◌}
 use Rattle.range_core.specs.declared.Kind.{Kind}
-use Rattle.range_core.specs.declared.Mode.{Mode}
 use Rattle.range_core.specs.declared.Span.{Span}
 use Rattle.range_core.specs.Resolving.{resolution}
-use Rattle.fd_table.specs.declared.tables.Look.{Look}
-use Rattle.fd_table.specs.Descriptors.{look_at}
-use Rattle.wait_core.specs.declared.Wait.{Wait}
-use Rattle.lock_manager.specs.declared.request.Rules.{Rules}
-use Rattle.lock_manager.specs.declared.request.Lock.{Lock}
-use Rattle.lock_manager.specs.declared.request.LkCmd.{LkCmd}
-use Rattle.lock_manager.specs.declared.request.LkCmd.TheVariants.{GetLk, SetLk, SetLkW, OGetLk, OSetLk, OSetLkW}
 use Rattle.lock_manager.specs.declared.request.Reply.TheVariants as replies
-use Rattle.lock_manager.specs.State.{State, with_byte_mode}
+use Rattle.lock_manager.specs.State.{with_byte_mode}
 use Rattle.lock_manager.specs.LockWords.{is_get, is_bad_argument, wanted_mode, permits, held_reply, lock_owner, wanted_lock}
-use Rattle.lock_manager.specs.Outcomes.{range_error, Outcome, refused}
-use Rattle.lock_manager.specs.LockCommands.{LockComesTo, DescribedComesTo, RangeComesTo, ModeComesTo, CommandComesTo, GetComesTo}
-use Rattle.lock_manager.specs.FlockCalls.{FlockTestComesTo}
+use Rattle.lock_manager.specs.Outcomes.{range_error}
+use Rattle.lock_manager.specs.LockCommands.{DescribedComesTo, RangeComesTo, ModeComesTo, GetComesTo}
 use Rattle.session_core.proofs.tallies.OutcomeLaws.{IsAtHand, IsTold, told_answer, told_here, cases_fact, cases_bool, cases_option, cases_result}
 use Rattle.session_core.proofs.tallies.FlockLaws.{no_grants, told_waits, told_locked, told_test}
 

@@ -1,22 +1,7 @@
 -- What one process may do in a step, each with the tallies that it leaves.
-use Rattle.std.proofs.lemmas.Grind.{common_steps}
-use Rattle.std.proofs.Common.{ℕ, ◌≡◌, ◌≢◌, ◌+◌, refl, sym, ◌∙◌, ap, subst, arith, true, eq-eqb, ne_eqb, length, List, [], ◌∷◌, ◌++◌, Some}
-use Rattle.std.specs.Prelude.{◌==◌, if◌then◌else◌}
+use Rattle.session_core.proofs.Common.{common_steps, ℕ, ◌≡◌, ◌≢◌, ◌+◌, refl, sym, ◌∙◌, ap, subst, arith, true, eq-eqb, ne_eqb, length, List, [], ◌∷◌, ◌++◌, Some, ◌==◌, if◌then◌else◌, cases_eq, Policy, Wait, wait_of, without_wait_of, Note, Answer, Waits, Reply, ProcState, Unborn, Live, Waiting, Ended, State, with_lock, with_process, without_wait, Settles, granted, IsWaiting, IsEnded}
 use Rattle.std.specs.List.{AllByRecursion as Each}
-use Rattle.std.proofs.lemmas.Bool.{cases_eq}
-use Rattle.wait_core.specs.declared.Policy.{Policy}
-use Rattle.wait_core.specs.declared.Wait.{Wait}
-use Rattle.wait_core.specs.WaitsView.{wait_of, without_wait_of}
-use Rattle.lock_manager.specs.declared.request.Note.{Note}
-use Rattle.lock_manager.specs.declared.request.Note.TheVariants.{Answer, Waits}
-use Rattle.lock_manager.specs.declared.request.Reply.{Reply}
 use Rattle.lock_manager.specs.declared.request.Reply.TheVariants as replies
-use Rattle.lock_manager.specs.declared.request.ProcState.{ProcState}
-use Rattle.lock_manager.specs.declared.request.ProcState.TheVariants.{Unborn, Live, Waiting, Ended}
-use Rattle.lock_manager.specs.State.{State, with_lock, with_process}
-use Rattle.lock_manager.specs.ProcessCalls.{without_wait}
-use Rattle.lock_manager.specs.Settling.{Settles, granted}
-use Rattle.session_core.specs.Headline.{IsWaiting, IsEnded}
 use Rattle.session_core.proofs.tallies.Tally.{numbers_in, AreApart, TallyAt, IsLastTaken, IsBorn, Tallies, Tells, MovesOne, MovesOne-tells, Tells-then, Tallies-along, one_more, one_more-same, one_more-other, Each-append, Each-map, Each-both, Each-middle, AreApart-middle, AreApart-push}
 
 -- where the processes stand, what waits and who was alive is the same

@@ -1,13 +1,7 @@
 -- What the outcomes of requests tell, whatever the request.
-use Rattle.std.proofs.Common.{ℕ, ◌≡◌, ◌+◌, ◌⊎◌, inl, inr, sym, subst, Bool, true, false, [], ◌∷◌, ⊎_elim, Option, Some, None, Result, Ok, Err, MatchBool, MatchOption, MatchResult}
+use Rattle.session_core.proofs.Common.{ℕ, ◌≡◌, ◌+◌, ◌⊎◌, inl, inr, sym, subst, Bool, true, false, [], ◌∷◌, ⊎_elim, Option, Some, None, Result, Ok, Err, MatchBool, MatchOption, MatchResult, FdFault, Answer, Reply, Live, State, Outcome, answered, IsRefusal}
 use Rattle.range_core.specs.Facts.{MatchFact}
-use Rattle.fd_table.specs.declared.FdFault.{FdFault}
 use Rattle.fd_table.specs.declared.FdFault.TheVariants as faults
-use Rattle.lock_manager.specs.declared.request.Note.TheVariants.{Answer}
-use Rattle.lock_manager.specs.declared.request.Reply.{Reply}
-use Rattle.lock_manager.specs.declared.request.ProcState.TheVariants.{Live}
-use Rattle.lock_manager.specs.State.{State}
-use Rattle.lock_manager.specs.Outcomes.{Outcome, answered, IsRefusal}
 use Rattle.session_core.proofs.tallies.Tally.{Tallies, Tells, MovesOne-tells, one_more}
 use Rattle.session_core.proofs.tallies.Moves.{SameProcesses, SameProcesses-refl, answer_moves}
 

@@ -1,21 +1,12 @@
 -- What fork, exit, signal and kill come to: a process begins to live, wakes or ends.
-use Rattle.std.proofs.Common.{arith, ℕ, ◌≡◌, ◌≢◌, ◌+◌, ◌⊎◌, inl, inr, refl, sym, ◌∙◌, ap, subst, Bool, true, false, ◌||◌, eq-eqb, length, List, [], ◌∷◌, Result, Ok, Err, MatchBool, MatchResult, ⊎_elim}
-use Rattle.std.proofs.lemmas.Grind.{common_steps}
-use Rattle.std.specs.Prelude.{◌==◌, if◌then◌else◌, IsFalse}
-use Rattle.fd_table.specs.declared.FdFault.{FdFault}
+use Rattle.session_core.proofs.Common.{arith, ℕ, ◌≡◌, ◌≢◌, ◌+◌, ◌⊎◌, inl, inr, refl, sym, ◌∙◌, ap, subst, Bool, true, false, eq-eqb, length, List, [], ◌∷◌, Result, Ok, Err, MatchBool, MatchResult, ⊎_elim, common_steps, ◌==◌, if◌then◌else◌, IsFalse}
+use Rattle.session_core.proofs.Common.{FdFault, ProcState, Unborn, Live, Waiting, Ended, EINTR, Note, Answer, State, with_process, Outcome, answered, refused, IsRefusal, with_released, KillComesTo, without_wait, IsEnded}
+use Rattle.std.proofs.Common.{◌||◌}
 use Rattle.fd_table.specs.Descriptors.{Descriptors, SameDescriptors, with_child}
 use Rattle.fd_table.specs.Calls.{ForkGives, IsFreeProcess}
-use Rattle.lock_manager.specs.declared.request.ProcState.{ProcState}
-use Rattle.lock_manager.specs.declared.request.ProcState.TheVariants.{Unborn, Live, Waiting, Ended}
-use Rattle.lock_manager.specs.declared.request.Errno.TheVariants.{EINTR, ESRCH, EINVAL}
-use Rattle.lock_manager.specs.declared.request.Note.{Note}
-use Rattle.lock_manager.specs.declared.request.Note.TheVariants.{Answer}
+use Rattle.lock_manager.specs.declared.request.Errno.TheVariants.{ESRCH, EINVAL}
 use Rattle.lock_manager.specs.declared.request.Reply.TheVariants as replies
-use Rattle.lock_manager.specs.State.{State, with_process}
-use Rattle.lock_manager.specs.Outcomes.{Outcome, answered, refused, IsRefusal}
-use Rattle.lock_manager.specs.DescriptorCalls.{with_released}
-use Rattle.lock_manager.specs.ProcessCalls.{ForkComesTo, EndComesTo, SignalComesTo, KillOtherComesTo, KillComesTo, without_wait}
-use Rattle.session_core.specs.Headline.{IsEnded}
+use Rattle.lock_manager.specs.ProcessCalls.{ForkComesTo, EndComesTo, SignalComesTo, KillOtherComesTo}
 use Rattle.session_core.proofs.tallies.Tally.{numbers_in, TallyAt, IsBorn, Tallies, Tells, MovesOne-tells, Tells-then, one_more, one_more-same, one_more-other}
 use Rattle.session_core.proofs.tallies.Moves.{Live≢Unborn, begin_moves, end_moves, signal_tells}
 use Rattle.session_core.proofs.tallies.OutcomeLaws.{IsAtHand, IsTold, told_here, told_refusal, cases_bool}

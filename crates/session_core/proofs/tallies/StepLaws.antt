@@ -1,25 +1,10 @@
 -- What each step tells and leaves.
-use Rattle.std.proofs.Common.{ℕ, ◌≡◌, ◌≢◌, ◌+◌, ◌≤◌, inl, inr, refl, sym, ◌∙◌, ap, subst, arith, eq-eqb, length, List, [], ◌∷◌, ◌++◌, ⊎_elim}
-use Rattle.std.proofs.lemmas.Grind.{common_steps}
-use Rattle.std.specs.List.{Contains, AllByRecursion as Each}
-use Rattle.std.proofs.lemmas.Bool.{cases_eq}
-use Rattle.lock_manager.specs.declared.request.Rules.{Rules}
-use Rattle.lock_manager.specs.declared.request.Request.{Request}
-use Rattle.lock_manager.specs.declared.request.Request.TheVariants.{OpenFile, Dup, DupTo, CloseFd, Seek, Resize, Lk, Flock, Fork, Exit, Signal, Kill, Enter, Leave, Bail}
-use Rattle.lock_manager.specs.declared.request.Note.{Note}
-use Rattle.lock_manager.specs.declared.request.Note.TheVariants.{Answer, Waits}
-use Rattle.lock_manager.specs.declared.request.Errno.{Errno}
+use Rattle.session_core.proofs.Common.{ℕ, ◌≡◌, ◌≢◌, ◌+◌, ◌≤◌, inl, inr, refl, sym, ◌∙◌, ap, subst, arith, eq-eqb, length, List, [], ◌∷◌, ◌++◌, ⊎_elim, common_steps, Contains, cases_eq}
+use Rattle.session_core.proofs.Common.{Rules, Request, OpenFile, Dup, DupTo, CloseFd, Seek, Resize, Lk, Flock, Fork, Exit, Signal, Kill, Enter, Leave, Bail, Note, Answer, Waits, Errno, Reply, State, Outcome, refused, KillComesTo, ComesTo, Step, Event, IsStep, IsEnded, EndsProcess}
+use Rattle.std.specs.List.{AllByRecursion as Each}
 use Rattle.lock_manager.specs.declared.request.Errno.TheVariants.{ESRCH}
-use Rattle.lock_manager.specs.declared.request.Reply.{Reply}
 use Rattle.lock_manager.specs.declared.request.Reply.TheVariants as replies
-use Rattle.lock_manager.specs.State.{State}
-use Rattle.lock_manager.specs.Outcomes.{Outcome, refused}
-use Rattle.lock_manager.specs.ProcessCalls.{KillComesTo}
 use Rattle.lock_manager.specs.Sections.{may_enter, may_leave, marked, BailComesTo}
-use Rattle.lock_manager.specs.Step.{ComesTo, Step}
-use Rattle.session_core.specs.Event.{Event}
-use Rattle.session_core.specs.Runs.{IsStep}
-use Rattle.session_core.specs.Headline.{IsEnded, EndsProcess}
 use Rattle.session_core.proofs.tallies.Tally.{Contains-here, None-contains, numbers_in, AreCountedFrom, TallyAt, Tallies, Tells, Tells-then, one_more}
 use Rattle.session_core.proofs.tallies.Moves.{Settles-tells}
 use Rattle.session_core.proofs.tallies.OutcomeLaws.{IsAtHand, IsTold, cases_bool}

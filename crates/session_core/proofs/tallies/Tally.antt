@@ -1,17 +1,6 @@
 -- How much was taken of each process and answered to it: what each state of a run keeps, and what moves one process.
-use Rattle.std.proofs.lemmas.Grind.{common_steps}
-use Rattle.std.proofs.Common.{ℕ, ◌≡◌, ◌≢◌, ◌+◌, ◌≤◌, ◌⊎◌, refl, sym, ◌∙◌, subst, arith, true, eq-eqb, ne_eqb, length, length-append, List, [], ◌∷◌, ◌++◌, ⊎_elim}
-use Rattle.std.specs.Prelude.{◌==◌, if◌then◌else◌}
-use Rattle.std.specs.List.{Contains, AllByRecursion as Each}
-use Rattle.std.proofs.lemmas.List.Elements.{All-contains, All-from_recursion}
-use Rattle.std.proofs.lemmas.Bool.{cases_eq}
-use Rattle.wait_core.specs.declared.Wait.{Wait}
-use Rattle.lock_manager.specs.declared.request.Note.{Note}
-use Rattle.lock_manager.specs.declared.request.Note.TheVariants.{Answer, Waits}
-use Rattle.lock_manager.specs.declared.request.ProcState.{ProcState}
-use Rattle.lock_manager.specs.declared.request.ProcState.TheVariants.{Unborn, Live, Waiting, Ended}
-use Rattle.lock_manager.specs.State.{State}
-use Rattle.session_core.specs.Headline.{told_process, IsWaiting, IsEnded}
+use Rattle.session_core.proofs.Common.{common_steps, ℕ, ◌≡◌, ◌≢◌, ◌+◌, ◌≤◌, ◌⊎◌, refl, sym, ◌∙◌, subst, arith, true, eq-eqb, ne_eqb, length, length-append, List, [], ◌∷◌, ◌++◌, ⊎_elim, ◌==◌, if◌then◌else◌, Contains, All-contains, All-from_recursion, cases_eq, Wait, Note, Answer, Waits, ProcState, Unborn, Live, Waiting, Ended, State, told_process, IsWaiting, IsEnded}
+use Rattle.std.specs.List.{AllByRecursion as Each}
 
 -- the numbers of the answers to a process among these notes
 abbrev pub numbers_in : ℕ → List Note → List ℕ

@@ -1,5 +1,5 @@
-use Rattle.std.proofs.Common.{ℕ, ◌≡◌, ◌<◌, length}
-use Rattle.fd_table.specs.Rows.{row_at, opening_row}
+use Rattle.fd_table.proofs.Common.{ℕ, ◌≡◌, ◌<◌, length, row_at}
+use Rattle.fd_table.specs.Rows.{opening_row}
 use Rattle.fd_table.proofs.rows.opening_rows.Given as goal
 
 -- the rows so far are those of the opening

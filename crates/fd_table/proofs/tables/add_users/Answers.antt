@@ -1,6 +1,4 @@
-use Rattle.std.proofs.lemmas.Grind.{common_steps}
-use Rattle.std.proofs.Common.{sym, arith}
-use Rattle.slab.proofs.SlabLemmas.{Updates-with_value}
+use Rattle.fd_table.proofs.Common.{common_steps, sym, arith, Updates-with_value}
 use Rattle.fd_table.proofs.EntryLemmas.{some_is}
 use Rattle.fd_table.proofs.ChangeLemmas.{one_more}
 use Rattle.fd_table.proofs.ForkLemmas.{users_fit, counted_more, counted_vacant, counted_closed}

@@ -1,7 +1,5 @@
-use Rattle.std.proofs.Common.{◌≡◌, ℕ, take}
-use Rattle.std.specs.Option.{option_map}
-use Rattle.slab.specs.Slab.{get}
-use Rattle.fd_table.specs.Rows.{users_in}
+use Rattle.fd_table.proofs.Common.{◌≡◌, ℕ, option_map, get, users_in}
+use Rattle.std.proofs.Common.{take}
 use Rattle.fd_table.specs.Soundness.{with_users}
 use Rattle.fd_table.proofs.tables.add_users.Given as goal
 

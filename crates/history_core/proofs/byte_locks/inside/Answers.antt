@@ -1,6 +1,5 @@
-use Rattle.std.proofs.Common.{◌↔◌, ◌⊎◌, subst}
-use Rattle.history_core.specs.declared.byte_locks.ByteLock.{ByteLock}
-use Rattle.history_core.specs.ByteLists.{Gives, HasByte}
+use Rattle.history_core.proofs.Common.{◌↔◌, subst, ByteLock, Gives, HasByte}
+use Rattle.std.proofs.Common.{◌⊎◌}
 use Rattle.history_core.proofs.ByteLemmas.{inside_gives, inside_none}
 use Rattle.history_core.proofs.byte_locks.inside.Goals as goal
 

@@ -1,5 +1,4 @@
-use Rattle.std.proofs.Common.{rules, sym, subst, arith}
-use Rattle.history_core.specs.ByteLists.{AreRanges}
+use Rattle.history_core.proofs.Common.{rules, sym, subst, arith, AreRanges}
 use Rattle.history_core.proofs.ByteLemmas.{absorbed_more, joined_gives, AreRanges-insert}
 use Rattle.history_core.proofs.byte_locks.joined.Goals as goal
 

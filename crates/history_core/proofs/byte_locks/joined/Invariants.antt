@@ -1,6 +1,6 @@
-use Rattle.std.proofs.Common.{◌↔◌, ◌⊎◌, ℕ, ◌<◌, ◌^◌, take}
-use Rattle.range_core.specs.declared.Mode.{Mode}
-use Rattle.history_core.specs.ByteLists.{AreRanges, Gives, HasByte, Within}
+use Rattle.history_core.proofs.Common.{◌↔◌, ℕ, ◌<◌, ◌^◌, take, Mode, AreRanges, Gives, HasByte}
+use Rattle.std.proofs.Common.{◌⊎◌}
+use Rattle.history_core.specs.ByteLists.{Within}
 use Rattle.history_core.proofs.byte_locks.joined.Given as goal
 
 abbrev pub invariant-loop-one : goal.invariant-loop-one

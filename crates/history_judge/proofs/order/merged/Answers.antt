@@ -1,4 +1,4 @@
-use Rattle.history_judge.specs.Merging.{lefts_in}
+use Rattle.history_judge.proofs.Common.{lefts_in}
 use Rattle.history_judge.proofs.PassLemmas.{one_more}
 use Rattle.history_judge.proofs.order.merged.Goals as goal
 

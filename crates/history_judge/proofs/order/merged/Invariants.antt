@@ -1,5 +1,6 @@
-use Rattle.std.proofs.Common.{◌≡◌, ◌++◌, drop}
-use Rattle.history_judge.specs.Merging.{lefts_in, merged as merged_of}
+use Rattle.history_judge.proofs.Common.{◌≡◌, ◌++◌, lefts_in}
+use Rattle.std.proofs.Common.{drop}
+use Rattle.history_judge.specs.Merging.{merged as merged_of}
 use Rattle.history_judge.proofs.order.merged.Given as goal
 
 abbrev pub invariant-loop-index : goal.invariant-loop-index

@@ -1,5 +1,4 @@
-use Rattle.std.proofs.Common.{arith}
-use Rattle.std.proofs.lemmas.Grind.{common_steps}
+use Rattle.history_text.proofs.Common.{arith, common_steps}
 use Rattle.history_text.proofs.AnswerLemmas.{held_given}
 use Rattle.history_text.proofs.answers.read_held_words.Goals as goal
 

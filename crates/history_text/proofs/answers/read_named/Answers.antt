@@ -1,6 +1,4 @@
-use Rattle.std.proofs.Common.{refl}
-use Rattle.script_core.specs.Words.{texts}
-use Rattle.history_core.specs.declared.request.Answer.TheVariants.{Done, Busy, Interrupted, Deadlock, Free, Error}
+use Rattle.history_text.proofs.Common.{refl, texts, Done, Busy, Interrupted, Deadlock, Free, Error}
 use Rattle.history_text.proofs.AnswerLemmas.{alone_given, one_of_seven}
 use Rattle.history_text.proofs.answers.read_named.Goals as goal
 

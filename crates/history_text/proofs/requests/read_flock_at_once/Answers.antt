@@ -1,6 +1,4 @@
-use Rattle.std.proofs.Common.{◌≡◌, ◌∷◌, [], ℕ, List, codes, rules}
-use Rattle.history_core.specs.declared.request.Action.TheVariants.{Flock}
-use Rattle.history_text.specs.HistoryReading.{flock_request}
+use Rattle.history_text.proofs.Common.{◌≡◌, ◌∷◌, [], ℕ, List, codes, rules, Flock, flock_request}
 use Rattle.history_text.proofs.RequestLemmas.{request_given, nb_given}
 use Rattle.history_text.proofs.requests.read_flock_at_once.Goals as goal
 

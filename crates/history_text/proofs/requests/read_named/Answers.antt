@@ -1,6 +1,4 @@
-use Rattle.std.proofs.Common.{codes, refl, rules}
-use Rattle.script_core.specs.Words.{texts}
-use Rattle.history_core.specs.declared.request.Action.TheVariants.{Close, Gone}
+use Rattle.history_text.proofs.Common.{codes, refl, rules, texts, Close, Gone}
 use Rattle.history_text.proofs.RequestLemmas.{not_named, whole_given}
 use Rattle.history_text.proofs.requests.read_named.Goals as goal
 

@@ -1,15 +1,10 @@
-use Rattle.std.proofs.Common.{◌≡◌, ◌<◌, ◌∙◌, length, get_or, take, sym, subst, arith, refl, take_all, slice_set}
-use Rattle.range_core.specs.declared.TheConstants.{OFFMAX}
-use Rattle.wait_core.specs.Locks.{Locks, locks_of}
-use Rattle.wait_core.specs.Cycles.{IsFreeOfCycles}
-use Rattle.wait_core.specs.WaitsView.{waits_of, AreTold, AgreeButOwner}
-use Rattle.lock_book.specs.declared.Owner.TheVariants.{Process}
-use Rattle.lock_book.specs.Changes.{whole_file}
-use Rattle.lock_manager.specs.LockReleases.{ReleasesLocks}
+use Rattle.lock_manager.proofs.Common.{◌≡◌, ◌<◌, ◌∙◌, length, get_or, take, sym, subst, arith, refl, slice_set, OFFMAX, Locks, locks_of, IsFreeOfCycles, waits_of, AreTold, Process, whole_file, ReleasesLocks, AreBlockedElsewhere}
+use Rattle.std.proofs.Common.{take_all}
+use Rattle.wait_core.specs.WaitsView.{AgreeButOwner}
 use Rattle.lock_manager.proofs.kept.BookLemmas.{book_at}
 use Rattle.lock_manager.proofs.kept.ReleaseLemmas.{released_file, released_room}
 use Rattle.lock_manager.proofs.kept.KeptLemmas.{off_whole, process_alone, stays_known}
-use Rattle.wait_core.specs.Settled.{AreBlockedElsewhere, AgreeOff}
+use Rattle.wait_core.specs.Settled.{AgreeOff}
 use Rattle.lock_manager.proofs.kept.WaitCloseLemmas.{free_released}
 use Rattle.lock_manager.proofs.lock_releases.release.Goals as goal
 

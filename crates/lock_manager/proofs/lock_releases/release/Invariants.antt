@@ -1,7 +1,4 @@
-use Rattle.std.proofs.Common.{◌≡◌, take, vec_len}
-use Rattle.wait_core.specs.Locks.{locks_of}
-use Rattle.lock_manager.specs.LockReleases.{ReleasesLocks, ReleasesRoom}
-use Rattle.lock_manager.specs.WaitsKept.{SameWaits, StayKnown}
+use Rattle.lock_manager.proofs.Common.{◌≡◌, take, vec_len, locks_of, ReleasesLocks, ReleasesRoom, SameWaits, StayKnown}
 use Rattle.lock_manager.proofs.lock_releases.release.Given as goal
 
 abbrev pub invariant-loop-file : goal.invariant-loop-file

@@ -1,5 +1,4 @@
-use Rattle.std.proofs.Common.{take}
-use Rattle.lock_manager.specs.LockReleases.{ReleasesInBook}
+use Rattle.lock_manager.proofs.Common.{take, ReleasesInBook}
 use Rattle.lock_manager.proofs.lock_releases.release_in.Given as goal
 
 abbrev pub invariant-loop-description : goal.invariant-loop-description

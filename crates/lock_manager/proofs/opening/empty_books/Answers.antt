@@ -1,5 +1,4 @@
-use Rattle.std.proofs.Common.{arith}
-use Rattle.std.proofs.lemmas.Grind.{common_steps}
+use Rattle.lock_manager.proofs.Common.{arith, common_steps}
 use Rattle.std.proofs.lemmas.List.Elements.{All-push}
 use Rattle.lock_manager.proofs.opening.empty_books.Goals as goal
 

@@ -1,5 +1,4 @@
-use Rattle.std.proofs.Common.{◌≡◌, All, vec_len}
-use Rattle.lock_manager.specs.Opening.{HoldsNothing}
+use Rattle.lock_manager.proofs.Common.{◌≡◌, All, vec_len, HoldsNothing}
 use Rattle.lock_manager.proofs.opening.empty_books.Given as goal
 
 abbrev pub invariant-loop : goal.invariant-loop

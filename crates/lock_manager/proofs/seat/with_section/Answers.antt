@@ -1,4 +1,4 @@
-use Rattle.std.proofs.Common.{refl}
+use Rattle.lock_manager.proofs.Common.{refl}
 use Rattle.lock_manager.proofs.SectionLemmas.{section_inserted}
 use Rattle.lock_manager.proofs.seat.with_section.Goals as goal
 

@@ -1,5 +1,4 @@
-use Rattle.std.proofs.lemmas.Grind.{common_steps}
-use Rattle.std.proofs.Common.{◌∙◌, arith, refl}
+use Rattle.lock_server.proofs.Common.{common_steps, ◌∙◌, arith, refl}
 use Rattle.lock_server.proofs.ClosingLemmas.{all_closed, all_forgotten_through, closing_more, closing_none}
 use Rattle.lock_server.proofs.ForgetLemmas.{above_from_next, next_from_above, next_of}
 use Rattle.lock_server.proofs.GrantedMoves.{crosses_itself}

@@ -1,7 +1,5 @@
-use Rattle.std.proofs.Common.{◌-◌, ◌^◌}
+use Rattle.lock_server.proofs.Common.{◌-◌, ◌^◌, through_at, KeepsOthers, table_state}
 use Rattle.lock_server.specs.HoldingsView.{AreKept}
-use Rattle.lock_server.specs.OpeningsView.{through_at}
-use Rattle.lock_server.specs.TableView.{KeepsOthers, table_state}
 use Rattle.lock_server.proofs.ClosingLemmas.{IsClosing}
 use Rattle.lock_server.proofs.ForgetLemmas.{next_of}
 use Rattle.lock_server.proofs.closing.close.Given as goal

@@ -1,5 +1,4 @@
-use Rattle.std.proofs.Common.{◌∙◌, sym}
-use Rattle.lock_server.specs.TableView.{table_state}
+use Rattle.lock_server.proofs.Common.{◌∙◌, sym, table_state}
 use Rattle.lock_server.proofs.ClosingLemmas.{closed_owner, spared_owner}
 use Rattle.lock_server.proofs.GrantedMoves.{crosses_itself}
 use Rattle.lock_server.proofs.closing.close_owner.Goals as goal

@@ -1,6 +1,4 @@
-use Rattle.lock_book.specs.Changes.{whole_file}
-use Rattle.wait_core.specs.declared.Family.TheVariants.{Whole}
-use Rattle.lock_server.specs.TableView.{table_state}
+use Rattle.lock_server.proofs.Common.{whole_file, Whole, table_state}
 use Rattle.lock_server.proofs.GrantedMoves.{KeepsRoomOn-then}
 use Rattle.lock_server.proofs.SafeLemmas.{moves_unset}
 use Rattle.lock_server.proofs.ServerLemmas.{safe_rested}

@@ -1,10 +1,4 @@
-use Rattle.std.proofs.Common.{◌≡◌, ◌∙◌, sym, subst, inl, refl, false, true, []}
-use Rattle.lock_book.specs.Changes.{whole_file}
-use Rattle.wait_core.specs.declared.Family.TheVariants.{Whole}
-use Rattle.lock_server.specs.declared.Pending.{Pending}
-use Rattle.lock_server.specs.Calls.{flock_request, no_ticket}
-use Rattle.lock_server.specs.Settling.{IsHeldBack}
-use Rattle.lock_server.specs.TableView.{table_state}
+use Rattle.lock_server.proofs.Common.{◌≡◌, ◌∙◌, sym, subst, inl, refl, false, true, [], whole_file, Whole, Pending, flock_request, no_ticket, IsHeldBack, table_state}
 use Rattle.lock_server.proofs.FlockLemmas.{released_by_set}
 use Rattle.lock_server.proofs.SafeLemmas.{moves_given, moves_unset}
 use Rattle.lock_server.proofs.ServerLemmas.{ComesToRest, safe_rested, safe_rested_twice, swept}

@@ -1,11 +1,4 @@
-use Rattle.std.proofs.Common.{◌≡◌, ◌∙◌, inl, inr, refl, sym, subst, false, true, Some, []}
-use Rattle.std.specs.Prelude.{IsTrue}
-use Rattle.lock_book.specs.Changes.{whole_file}
-use Rattle.wait_core.specs.declared.Family.TheVariants.{Whole}
-use Rattle.lock_server.specs.Files.{FileState}
-use Rattle.lock_server.specs.Settling.{HasAlready, IsBlockedUnless, IsHeldBack}
-use Rattle.lock_server.specs.States.{State}
-use Rattle.lock_server.specs.TableView.{table_state}
+use Rattle.lock_server.proofs.Common.{◌≡◌, ◌∙◌, inl, inr, refl, sym, subst, false, true, Some, [], IsTrue, whole_file, Whole, FileState, HasAlready, IsBlockedUnless, IsHeldBack, State, table_state}
 use Rattle.lock_server.proofs.FlockLemmas.{never_refused, place_from_room, released_by_set, set_as_asked}
 use Rattle.lock_server.proofs.ListLemmas.{held_back, unless_same}
 use Rattle.lock_server.proofs.SafeLemmas.{moves_given, moves_unset}

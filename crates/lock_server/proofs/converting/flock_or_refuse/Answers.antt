@@ -1,8 +1,4 @@
-use Rattle.std.proofs.Common.{◌≡◌, ◌∙◌, sym, subst, false, true}
-use Rattle.lock_server.specs.declared.Pending.{Pending}
-use Rattle.lock_server.specs.Calls.{flock_request, no_ticket}
-use Rattle.lock_server.specs.Settling.{IsHeldBack}
-use Rattle.lock_server.specs.TableView.{table_state}
+use Rattle.lock_server.proofs.Common.{◌≡◌, ◌∙◌, sym, subst, false, true, Pending, flock_request, no_ticket, IsHeldBack, table_state}
 use Rattle.lock_server.proofs.SafeLemmas.{moves_given}
 use Rattle.lock_server.proofs.ServerLemmas.{safe_rested}
 use Rattle.lock_server.proofs.SweptLemmas.{flock_set, swept_with_lock}

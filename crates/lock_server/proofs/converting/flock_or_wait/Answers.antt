@@ -1,8 +1,4 @@
-use Rattle.std.proofs.Common.{◌≡◌, ◌∙◌, inr, refl, sym, subst, false, true}
-use Rattle.lock_server.specs.Files.{FileState}
-use Rattle.lock_server.specs.Settling.{HasAlready, IsHeldBack, IsWaitBlocked}
-use Rattle.lock_server.specs.States.{State}
-use Rattle.lock_server.specs.TableView.{table_state}
+use Rattle.lock_server.proofs.Common.{◌≡◌, ◌∙◌, inr, refl, sym, subst, false, true, FileState, HasAlready, IsHeldBack, IsWaitBlocked, State, table_state}
 use Rattle.lock_server.proofs.FlockLemmas.{never_refused, place_from_room, set_as_asked}
 use Rattle.lock_server.proofs.ListLemmas.{held_back}
 use Rattle.lock_server.proofs.SafeLemmas.{moves_given}

@@ -1,9 +1,4 @@
-use Rattle.std.proofs.Common.{sym, subst, Option}
-use Rattle.range_core.specs.declared.Mode.{Mode}
-use Rattle.lock_server.specs.declared.Conversion.{Conversion}
-use Rattle.lock_server.specs.declared.Conversion.TheVariants.{Stepwise}
-use Rattle.lock_server.specs.Calls.{FlockWaitFrom, WaitConversionComesTo}
-use Rattle.lock_server.specs.TableView.{table_state}
+use Rattle.lock_server.proofs.Common.{sym, subst, Option, Mode, Conversion, Stepwise, FlockWaitFrom, WaitConversionComesTo, table_state}
 use Rattle.lock_server.proofs.FlockLemmas.{place_from_room}
 use Rattle.lock_server.proofs.converting.flock_wait.Goals as goal
 

@@ -1,5 +1,4 @@
-use Rattle.std.proofs.Common.{take}
-use Rattle.std.proofs.lemmas.List.{take_more}
+use Rattle.lock_server.proofs.Common.{take, take_more}
 use Rattle.lock_server.proofs.WordLemmas.{puts_append}
 use Rattle.lock_server.proofs.words.put_all.Goals as goal
 

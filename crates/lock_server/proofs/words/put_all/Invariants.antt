@@ -1,5 +1,4 @@
-use Rattle.std.proofs.Common.{take}
-use Rattle.lock_server.specs.Words.{Puts}
+use Rattle.lock_server.proofs.Common.{take, Puts}
 use Rattle.lock_server.proofs.words.put_all.Given as goal
 
 abbrev pub invariant-loop-word : goal.invariant-loop-word

@@ -1,4 +1,5 @@
-use Rattle.std.proofs.Common.{refl, arith, rules, ◌≡◌, ◌∙◌, ◌≤◌, ◌<◌, ◌-◌, length, take, length-take-le}
+use Rattle.replay_core.proofs.Common.{refl, arith, rules, ◌≡◌, ◌∙◌, ◌≤◌, ◌<◌, ◌-◌, length, take}
+use Rattle.std.proofs.Common.{length-take-le}
 use Rattle.replay_core.proofs.JournalSourceLemmas.{nothing_read, more_read}
 use Rattle.replay_core.proofs.checks.read_journal.Goals as goal
 

@@ -1,5 +1,4 @@
-use Rattle.std.proofs.Common.{◌≡◌, ◌≤◌, ◌+◌}
-use Rattle.replay_core.specs.Checks.{journal_limit}
+use Rattle.replay_core.proofs.Common.{◌≡◌, ◌≤◌, ◌+◌, journal_limit}
 use Rattle.replay_core.proofs.JournalSourceLemmas.{IsReadSoFar}
 use Rattle.replay_core.proofs.checks.read_journal.Given as goal
 

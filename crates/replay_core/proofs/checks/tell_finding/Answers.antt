@@ -1,5 +1,4 @@
-use Rattle.std.proofs.Common.{◌∙◌, ap, Some}
-use Rattle.replay_core.specs.declared.checking.Finding.{Finding}
+use Rattle.replay_core.proofs.Common.{◌∙◌, ap, Some, Finding}
 use Rattle.replay_core.proofs.JournalSourceLemmas.{told_illegal, told_faulty}
 use Rattle.replay_core.proofs.checks.tell_finding.Goals as goal
 

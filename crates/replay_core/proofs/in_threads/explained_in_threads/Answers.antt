@@ -1,10 +1,6 @@
-use Rattle.std.proofs.Common.{◌≡◌, ◌∙◌, ℕ, List, true, false, ap, sym, subst}
+use Rattle.replay_core.proofs.Common.{◌≡◌, ◌∙◌, ℕ, List, true, false, ap, sym, subst, processes_of, Event, IsRun, manager_of, events_in}
 use Rattle.std.proofs.Math.Logic.{∥∥₁_elim}
 use Rattle.lock_manager.specs.State.{State}
-use Rattle.lock_manager.specs.ManagerView.{processes_of}
-use Rattle.session_core.specs.Event.{Event}
-use Rattle.session_core.specs.Runs.{IsRun}
-use Rattle.session_core.specs.SessionView.{manager_of, events_in}
 use Rattle.replay_core.proofs.in_threads.explained_in_threads.Goals as goal
 
 pub unreachable-requires : goal.unreachable-requires

@@ -1,7 +1,6 @@
-use Rattle.std.proofs.Common.{ℕ, ◌≤◌, List, IsTrue, length, subst}
-use Rattle.std.specs.Io.KnownBytes.{Appends}
+use Rattle.replay_core.proofs.Common.{ℕ, ◌≤◌, List, length, subst, Appends, SCRIPT_MAX}
+use Rattle.std.proofs.Common.{IsTrue}
 use Rattle.std.proofs.lemmas.Result.{on_ok_weaker, IfErr-at_err}
-use Rattle.script_core.specs.declared.TheConstants.{SCRIPT_MAX}
 use Rattle.replay_core.specs.Devices.{TakesFront}
 use Rattle.replay_core.specs.Interleaving.{IsThreadTextIn}
 use Rattle.replay_core.proofs.OutputLemmas.{writes}

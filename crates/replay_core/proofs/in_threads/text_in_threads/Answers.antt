@@ -1,4 +1,4 @@
-use Rattle.std.proofs.Common.{sym, subst}
+use Rattle.replay_core.proofs.Common.{sym, subst}
 use Rattle.replay_core.specs.declared.job.Detail.{Detail}
 use Rattle.replay_core.specs.Interleaving.{IsThreadTextIn}
 use Rattle.replay_core.proofs.OutputLemmas.{runs, tells, tells_explained}

@@ -1,4 +1,4 @@
-use Rattle.std.proofs.Common.{sym, subst}
+use Rattle.replay_core.proofs.Common.{sym, subst}
 use Rattle.replay_core.specs.declared.checks.Outcome.TheVariants.{Illegal}
 use Rattle.replay_core.specs.declared.job.Job.{Job}
 use Rattle.replay_core.specs.Jobs.{outputs_of}

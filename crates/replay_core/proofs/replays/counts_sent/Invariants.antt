@@ -1,7 +1,5 @@
-use Rattle.std.proofs.Common.{◌≡◌, List, length, vec_len}
-use Rattle.session_core.specs.Event.{Event}
+use Rattle.replay_core.proofs.Common.{◌≡◌, List, length, vec_len, Event, AreCounts}
 use Rattle.session_core.specs.SequencerView.{sent_by, HasTold}
-use Rattle.script_core.specs.ReportText.{AreCounts}
 use Rattle.replay_core.proofs.replays.counts_sent.Given as goal
 
 abbrev pub invariant-loop-index : goal.invariant-loop-index

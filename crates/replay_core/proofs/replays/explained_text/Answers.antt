@@ -1,11 +1,8 @@
-use Rattle.std.proofs.Common.{◌≡◌, ◌∙◌, ◌++◌, ℕ, List, ap, sym, subst}
+use Rattle.replay_core.proofs.Common.{◌≡◌, ◌∙◌, ◌++◌, ℕ, List, ap, sym, subst, processes_of, state_at, Event, manager_of, events_in, AreCounts, IsReport}
 use Rattle.lock_manager.specs.declared.manager.Manager.{Manager}
 use Rattle.lock_manager.specs.State.{opening_state}
-use Rattle.lock_manager.specs.ManagerView.{StandsFor, processes_of, state_at}
-use Rattle.session_core.specs.Event.{Event}
+use Rattle.lock_manager.specs.ManagerView.{StandsFor}
 use Rattle.session_core.specs.Runs.{Leads}
-use Rattle.session_core.specs.SessionView.{manager_of, events_in}
-use Rattle.script_core.specs.ReportText.{AreCounts, IsReport}
 use Rattle.script_core.specs.Explaining.{ExplainsRun, untaken_lines}
 use Rattle.replay_core.proofs.OutputLemmas.{one_behind_another}
 use Rattle.replay_core.proofs.replays.explained_text.Goals as goal

@@ -1,7 +1,4 @@
-use Rattle.std.proofs.Common.{◌∙◌, ◌++◌, ℕ, List, ap, sym, subst, length, flat_map}
-use Rattle.session_core.specs.Mail.{requests_sent}
-use Rattle.script_core.specs.EntryText.{entry_line}
-use Rattle.script_core.specs.ReportText.{AreCounts, IsReport}
+use Rattle.replay_core.proofs.Common.{◌∙◌, ◌++◌, ℕ, List, ap, sym, subst, length, flat_map, requests_sent, entry_line, AreCounts, IsReport}
 use Rattle.replay_core.proofs.replays.plain_text.Goals as goal
 
 pub returns-clause-text : goal.returns-clause-text

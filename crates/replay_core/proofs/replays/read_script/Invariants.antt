@@ -1,6 +1,5 @@
-use Rattle.std.proofs.Common.{◌≡◌, ◌≤◌, ◌+◌, ◌-◌, length}
+use Rattle.replay_core.proofs.Common.{◌≡◌, ◌≤◌, ◌+◌, ◌-◌, length, SCRIPT_MAX}
 use Rattle.std.specs.Io.KnownBytes.{Consumes}
-use Rattle.script_core.specs.declared.TheConstants.{SCRIPT_MAX}
 use Rattle.replay_core.proofs.replays.read_script.Given as goal
 
 abbrev pub decreases-loop-chunk : goal.decreases-loop-chunk

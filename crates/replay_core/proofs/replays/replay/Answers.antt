@@ -1,5 +1,5 @@
-use Rattle.std.proofs.Common.{ℕ, List, IsTrue, subst}
-use Rattle.std.specs.Io.KnownBytes.{Appends}
+use Rattle.replay_core.proofs.Common.{ℕ, List, subst, Appends}
+use Rattle.std.proofs.Common.{IsTrue}
 use Rattle.std.proofs.lemmas.Result.{on_ok_weaker, IfErr-at_err}
 use Rattle.replay_core.specs.Devices.{TakesFront}
 use Rattle.replay_core.specs.Replays.{IsTextIn}

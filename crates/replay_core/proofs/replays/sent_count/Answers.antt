@@ -1,7 +1,6 @@
-use Rattle.std.proofs.Common.{rules, ◌≡◌, ◌==◌, ◌∙◌, ℕ, sym, count_by, filter}
-use Rattle.std.proofs.lemmas.List.{length-map}
+use Rattle.replay_core.proofs.Common.{rules, ◌≡◌, ◌==◌, ◌∙◌, ℕ, sym, length-map, Request}
+use Rattle.std.proofs.Common.{count_by, filter}
 use Rattle.std.proofs.lemmas.List.Sums.{length-filter}
-use Rattle.lock_manager.specs.declared.request.Request.{Request}
 use Rattle.replay_core.proofs.replays.sent_count.Goals as goal
 
 pub returns : goal.returns

@@ -1,6 +1,4 @@
-use Rattle.std.proofs.Common.{◌≡◌, length, vec_len}
-use Rattle.session_core.specs.Mail.{requests_sent}
-use Rattle.script_core.specs.ReportText.{AreCounts}
+use Rattle.replay_core.proofs.Common.{◌≡◌, length, vec_len, requests_sent, AreCounts}
 use Rattle.replay_core.proofs.replays.sent_counts.Given as goal
 
 abbrev pub invariant-loop-index : goal.invariant-loop-index

@@ -1,4 +1,5 @@
-use Rattle.std.proofs.Common.{ℕ, List, sym, subst, IfOk}
+use Rattle.replay_core.proofs.Common.{ℕ, List, sym, subst}
+use Rattle.std.proofs.Common.{IfOk}
 use Rattle.script_core.specs.Output.{IsOutput}
 use Rattle.replay_core.specs.declared.job.Detail.{Detail}
 use Rattle.replay_core.specs.Replays.{IsTextIn}

@@ -1,4 +1,4 @@
-use Rattle.std.proofs.Common.{rules, ◌≡◌, ◌∙◌, sym, subst}
+use Rattle.replay_core.proofs.Common.{rules, ◌≡◌, ◌∙◌, sym, subst}
 use Rattle.std.proofs.lemmas.List.{take_rest}
 use Rattle.replay_core.specs.Devices.{TakesSome}
 use Rattle.replay_core.proofs.DeviceLemmas.{HasWritten, more_written}

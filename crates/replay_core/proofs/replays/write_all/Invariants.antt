@@ -1,4 +1,4 @@
-use Rattle.std.proofs.Common.{◌≡◌, length}
+use Rattle.replay_core.proofs.Common.{◌≡◌, length}
 use Rattle.replay_core.proofs.DeviceLemmas.{HasWritten}
 use Rattle.replay_core.proofs.replays.write_all.Given as goal
 

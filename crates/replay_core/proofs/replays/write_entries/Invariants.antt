@@ -1,5 +1,4 @@
-use Rattle.std.proofs.Common.{◌≡◌, ◌++◌, flat_map, take}
-use Rattle.script_core.specs.EntryText.{entry_line}
+use Rattle.replay_core.proofs.Common.{◌≡◌, ◌++◌, flat_map, take, entry_line}
 use Rattle.replay_core.proofs.replays.write_entries.Given as goal
 
 abbrev pub invariant-loop-entry : goal.invariant-loop-entry

@@ -1,11 +1,7 @@
-use Rattle.std.proofs.Common.{◌≡◌, ◌∙◌, ℕ, Option, Some, List, flat_map, ap, sym, subst, length, Err, [], ◌∷◌, ◌++◌, append-nil, append_assoc, arith}
-use Rattle.std.proofs.lemmas.Grind.{common_steps, flat_map-append}
-use Rattle.fd_table.specs.Descriptors.{process_limit}
-use Rattle.lock_manager.specs.declared.request.Request.{Request}
+use Rattle.replay_core.proofs.Common.{◌≡◌, ◌∙◌, ℕ, Option, Some, List, flat_map, ap, sym, subst, length, Err, [], ◌∷◌, ◌++◌, append-nil, append_assoc, arith, common_steps, process_limit, Request, Event, entry_line}
+use Rattle.std.proofs.lemmas.Grind.{flat_map-append}
 use Rattle.session_core.specs.declared.sequencer.Sequencer.{Sequencer}
 use Rattle.session_core.specs.Deliveries.{HasRun}
-use Rattle.session_core.specs.Event.{Event}
-use Rattle.script_core.specs.EntryText.{entry_line}
 use Rattle.script_core.specs.declared.reader.ScriptReader.{ScriptReader}
 use Rattle.script_core.specs.ScriptView.{IsNext, HandsOut, rules_in}
 use Rattle.replay_core.specs.Replays.{WritesRun}

@@ -1,6 +1,4 @@
-use Rattle.std.proofs.Common.{◌≡◌, ℕ, ◌+◌, List, [], Option, None, Some}
-use Rattle.fd_table.specs.Descriptors.{process_limit}
-use Rattle.lock_manager.specs.declared.request.Request.{Request}
+use Rattle.replay_core.proofs.Common.{◌≡◌, ℕ, ◌+◌, List, [], Option, None, Some, process_limit, Request}
 use Rattle.session_core.specs.declared.sequencer.Sequencer.{Sequencer}
 use Rattle.script_core.specs.declared.reader.ScriptReader.{ScriptReader}
 use Rattle.script_core.specs.ScriptView.{HandsOut, rules_in, unread_in}

@@ -1,15 +1,8 @@
-use Rattle.std.proofs.Common.{◌≡◌, refl, ◌∙◌, ap, sym, subst, ℕ, ◌≤◌, List, [], ◌∷◌, ◌++◌, map, length, vec_len, Vec, Global, arith, append-nil, vec_items}
-use Rattle.std.specs.Vec.Iter.{into_iter_items}
-use Rattle.std.proofs.lemmas.List.{length-map, map-append, nil_from_length}
+use Rattle.replay_core.proofs.Common.{◌≡◌, refl, ◌∙◌, ap, sym, subst, ℕ, ◌≤◌, List, [], ◌∷◌, ◌++◌, map, length, vec_len, arith, append-nil, vec_items, into_iter_items, length-map, map-append, nil_from_length, slice_get_within, Reply, Event, desk_view, Caller, AreGathered, AreToldOf, started, IsFor}
+use Rattle.std.proofs.Common.{Vec, Global}
 use Rattle.std.proofs.lemmas.List.Elements.{All-head, All-same, All-rest}
-use Rattle.std.proofs.lemmas.Option.{slice_get_within}
-use Rattle.lock_manager.specs.declared.request.Reply.{Reply}
-use Rattle.session_core.specs.Event.{Event}
-use Rattle.call_table.specs.Desks.{desk_view}
-use Rattle.replay_core.specs.declared.caller.Caller.{Caller}
 use Rattle.replay_core.specs.declared.threads.place.Place.{Place}
-use Rattle.replay_core.specs.Gathering.{AreGathered, IsGathered, AreToldOf, HasLeft}
-use Rattle.replay_core.specs.Places.{started, IsFor}
+use Rattle.replay_core.specs.Gathering.{IsGathered, HasLeft}
 use Rattle.replay_core.proofs.ListLemmas.{next_of, done_more}
 use Rattle.replay_core.proofs.GatheringLemmas.{still_of_hub, gathered_before, gathered_more}
 use Rattle.replay_core.proofs.WatchingLemmas.{watched_before, told_more}

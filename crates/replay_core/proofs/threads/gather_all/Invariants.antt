@@ -1,9 +1,6 @@
-use Rattle.std.proofs.Common.{◌≡◌, ◌≤◌, List, ◌++◌, All, map, vec_len, vec_capacity, vec_items}
-use Rattle.std.specs.Vec.Iter.{into_iter_items}
-use Rattle.call_table.specs.Desks.{desk_view, session_in, SameDesk}
-use Rattle.replay_core.specs.declared.caller.Caller.{Caller}
-use Rattle.replay_core.specs.Gathering.{AreGathered, AreToldOf}
-use Rattle.replay_core.specs.Places.{started, IsFor}
+use Rattle.replay_core.proofs.Common.{◌≡◌, ◌≤◌, List, ◌++◌, All, map, vec_len, vec_items, into_iter_items, desk_view, Caller, AreGathered, AreToldOf, started, IsFor}
+use Rattle.std.proofs.Common.{vec_capacity}
+use Rattle.call_table.specs.Desks.{session_in, SameDesk}
 use Rattle.replay_core.proofs.threads.gather_all.Given as goal
 
 abbrev pub invariant-loop-place : goal.invariant-loop-place

@@ -1,4 +1,4 @@
-use Rattle.std.proofs.Common.{◌≡◌, ◌<◌, ◌+◌, ℕ, Some, slice_get}
+use Rattle.replay_core.proofs.Common.{◌≡◌, ◌<◌, ◌+◌, ℕ, Some, slice_get}
 use Rattle.replay_core.specs.Gathering.{HasAllTaken}
 use Rattle.replay_core.proofs.threads.has_all_taken.Given as goal
 

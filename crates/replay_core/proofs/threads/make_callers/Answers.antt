@@ -1,11 +1,5 @@
-use Rattle.std.proofs.Common.{rules, ◌≡◌, ◌∙◌, ap, sym, subst, ℕ, ◌+◌, List, [], ◌∷◌, ◌++◌, map, length, arith}
-use Rattle.std.proofs.lemmas.List.{length-map, map-append}
-use Rattle.std.specs.Vec.Iter.{into_iter_items}
-use Rattle.session_core.specs.Mail.{requests_sent}
-use Rattle.call_table.specs.declared.client.Client.{Client}
+use Rattle.replay_core.proofs.Common.{rules, ◌≡◌, ◌∙◌, ap, sym, subst, ℕ, ◌+◌, List, [], ◌∷◌, ◌++◌, map, length, arith, length-map, map-append, into_iter_items, requests_sent, Client, Caller, AreOf}
 use Rattle.table_steps.specs.Views.{new_client}
-use Rattle.replay_core.specs.declared.caller.Caller.{Caller}
-use Rattle.replay_core.specs.Callers.{AreOf}
 use Rattle.replay_core.proofs.ListLemmas.{next_of, done_more}
 use Rattle.replay_core.proofs.GatheringLemmas.{of_more}
 use Rattle.replay_core.proofs.threads.make_callers.Goals as goal

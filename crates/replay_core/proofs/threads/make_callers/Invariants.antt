@@ -1,7 +1,4 @@
-use Rattle.std.proofs.Common.{◌≡◌, ◌++◌, map, vec_len}
-use Rattle.std.specs.Vec.Iter.{into_iter_items}
-use Rattle.replay_core.specs.declared.caller.Caller.{Caller}
-use Rattle.replay_core.specs.Callers.{AreOf}
+use Rattle.replay_core.proofs.Common.{◌≡◌, ◌++◌, map, vec_len, into_iter_items, Caller, AreOf}
 use Rattle.replay_core.proofs.threads.make_callers.Given as goal
 
 abbrev pub invariant-loop-client : goal.invariant-loop-client

@@ -1,13 +1,9 @@
-use Rattle.std.proofs.Common.{◌≡◌, ◌∙◌, ap, ℕ, List, subst, true, ◌||◌, ◌&&◌, ◌==◌}
-use Rattle.session_core.specs.Event.{Event}
-use Rattle.session_core.specs.Mail.{IsPrefixOf, requests_taken, answers_to}
-use Rattle.table_steps.specs.declared.client_view.ClientView.{ClientView}
+use Rattle.replay_core.proofs.Common.{◌≡◌, ◌∙◌, ap, ℕ, List, subst, true, ◌&&◌, ◌==◌, Event, IsPrefixOf, requests_taken, answers_to, ClientView, Client, client_view, desk_view}
+use Rattle.std.proofs.Common.{◌||◌}
 use Rattle.table_steps.specs.declared.desk_view.DeskView.{DeskView}
-use Rattle.call_table.specs.declared.client.Client.{Client}
 use Rattle.table_steps.specs.Steps.{met_desk, met_client}
 use Rattle.table_steps.specs.Views.{tally_at}
-use Rattle.call_table.specs.Shown.{client_view}
-use Rattle.call_table.specs.Desks.{desk_view, IsMet}
+use Rattle.call_table.specs.Desks.{IsMet}
 use Rattle.replay_core.proofs.CollectingLemmas.{met_all, met_taken}
 use Rattle.replay_core.proofs.threads.meet.Goals as goal
 

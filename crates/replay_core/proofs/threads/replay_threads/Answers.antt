@@ -1,18 +1,7 @@
-use Rattle.std.proofs.Common.{◌≡◌, ◌∙◌, ap, subst, ℕ, List, Vec, Global, length, arith}
-use Rattle.std.proofs.lemmas.List.{length-map}
+use Rattle.replay_core.proofs.Common.{◌≡◌, ◌∙◌, ap, subst, ℕ, List, length, arith, length-map, process_limit, Request, Rules, requests_sent, events_in, Client, Meaning, AreCounts, processes_in, Caller, AreOf}
+use Rattle.std.proofs.Common.{Vec, Global}
 use Rattle.std.proofs.lemmas.Result.{IfOk-weaker}
-use Rattle.fd_table.specs.Descriptors.{process_limit}
-use Rattle.lock_manager.specs.declared.request.Request.{Request}
-use Rattle.lock_manager.specs.declared.request.Rules.{Rules}
-use Rattle.session_core.specs.Mail.{requests_sent}
-use Rattle.session_core.specs.SessionView.{events_in}
-use Rattle.call_table.specs.declared.client.Client.{Client}
 use Rattle.table_steps.specs.declared.setup.Setup.{Setup}
-use Rattle.script_core.specs.ScriptText.{Meaning}
-use Rattle.script_core.specs.ReportText.{AreCounts}
-use Rattle.script_core.specs.Output.{processes_in}
-use Rattle.replay_core.specs.declared.caller.Caller.{Caller}
-use Rattle.replay_core.specs.Callers.{AreOf}
 use Rattle.replay_core.specs.Rooms.{IsServed}
 use Rattle.replay_core.proofs.GatheringLemmas.{are_new, are_ready, reports}
 use Rattle.replay_core.proofs.WatchingLemmas.{all_watched}

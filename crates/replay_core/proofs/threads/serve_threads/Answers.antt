@@ -1,10 +1,7 @@
-use Rattle.std.proofs.Common.{◌≡◌, ◌∙◌, sym, subst, List, map, vec_items}
+use Rattle.replay_core.proofs.Common.{◌≡◌, ◌∙◌, sym, subst, List, map, vec_items, events_in, Caller, AreGathered, AreToldOf, started}
 use Rattle.session_core.specs.declared.session.Session.{Session}
-use Rattle.session_core.specs.SessionView.{events_in}
-use Rattle.replay_core.specs.declared.caller.Caller.{Caller}
 use Rattle.replay_core.specs.Callers.{AreReady}
-use Rattle.replay_core.specs.Gathering.{AreGathered, AreAllTaken, AreToldOf}
-use Rattle.replay_core.specs.Places.{started}
+use Rattle.replay_core.specs.Gathering.{AreAllTaken}
 use Rattle.replay_core.proofs.threads.serve_threads.Goals as goal
 
 pub gather_all-requires-clause-callers : goal.gather_all-requires-clause-callers

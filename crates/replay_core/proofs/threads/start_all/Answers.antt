@@ -1,10 +1,6 @@
-use Rattle.std.proofs.Common.{◌≡◌, ◌∙◌, ap, sym, subst, ℕ, ◌≤◌, List, [], ◌∷◌, ◌++◌, map, length, vec_len}
-use Rattle.std.proofs.lemmas.List.{map-append}
+use Rattle.replay_core.proofs.Common.{◌≡◌, ◌∙◌, ap, sym, subst, ℕ, ◌≤◌, List, [], ◌∷◌, ◌++◌, map, length, vec_len, map-append, into_iter_items, Caller, started, IsFor}
 use Rattle.std.proofs.lemmas.List.Elements.{All-push, All-same}
-use Rattle.std.specs.Vec.Iter.{into_iter_items}
-use Rattle.replay_core.specs.declared.caller.Caller.{Caller}
 use Rattle.replay_core.specs.declared.threads.place.Place.{Place}
-use Rattle.replay_core.specs.Places.{started, IsFor}
 use Rattle.replay_core.proofs.ListLemmas.{next_of, done_more}
 use Rattle.replay_core.proofs.threads.start_all.Goals as goal
 

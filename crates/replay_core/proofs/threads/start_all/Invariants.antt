@@ -1,6 +1,5 @@
-use Rattle.std.proofs.Common.{◌≡◌, ◌≤◌, ◌++◌, All, map, vec_len, vec_capacity}
-use Rattle.std.specs.Vec.Iter.{into_iter_items}
-use Rattle.replay_core.specs.Places.{started, IsFor}
+use Rattle.replay_core.proofs.Common.{◌≡◌, ◌≤◌, ◌++◌, All, map, vec_len, into_iter_items, started, IsFor}
+use Rattle.std.proofs.Common.{vec_capacity}
 use Rattle.replay_core.proofs.threads.start_all.Given as goal
 
 abbrev pub invariant-loop-caller : goal.invariant-loop-caller

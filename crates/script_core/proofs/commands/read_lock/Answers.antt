@@ -1,8 +1,5 @@
-use Rattle.std.proofs.lemmas.Grind.{common_steps}
-use Rattle.std.proofs.Common.{[], ℕ, List, get_or, Bor, rules, arith}
+use Rattle.script_core.proofs.Common.{common_steps, [], ℕ, List, get_or, Bor, rules, arith, err_from_is_err_and, lock_command_word}
 use Rattle.std.proofs.lemmas.Int.{to_z-of_z}
-use Rattle.std.proofs.lemmas.Result.{err_from_is_err_and}
-use Rattle.script_core.specs.RequestText.{lock_command_word}
 use Rattle.script_core.proofs.ArgumentLemmas.{five_texts, six_texts, bad_bare_lock, bad_lock, bad_pid, good_lock}
 use Rattle.script_core.proofs.commands.read_lock.Goals as goal
 

@@ -1,4 +1,4 @@
-use Rattle.std.proofs.Common.{◌≡◌, ◌<◌, arith, subst, sym, ℕ}
+use Rattle.script_core.proofs.Common.{◌≡◌, ◌<◌, arith, subst, sym, ℕ}
 use Rattle.script_core.proofs.DeadlockLemmas.{only_one}
 use Rattle.script_core.proofs.deadlock.alone.Goals as goal
 

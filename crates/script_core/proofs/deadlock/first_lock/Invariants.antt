@@ -1,6 +1,4 @@
-use Rattle.std.proofs.Common.{ℕ, ◌<◌, get_or}
-use Rattle.lock_book.specs.declared.Held.{Held}
-use Rattle.script_core.specs.Deadlocks.{IsLockAgainst}
+use Rattle.script_core.proofs.Common.{ℕ, ◌<◌, get_or, Held, IsLockAgainst}
 use Rattle.script_core.proofs.deadlock.first_lock.Given as goal
 
 abbrev pub invariant-loop-line : goal.invariant-loop-line

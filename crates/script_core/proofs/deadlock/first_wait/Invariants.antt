@@ -1,6 +1,4 @@
-use Rattle.std.proofs.Common.{ℕ, ◌<◌, get_or}
-use Rattle.wait_core.specs.declared.Wait.{Wait}
-use Rattle.script_core.specs.Deadlocks.{IsWaitAgainst}
+use Rattle.script_core.proofs.Common.{ℕ, ◌<◌, get_or, Wait, IsWaitAgainst}
 use Rattle.script_core.proofs.deadlock.first_wait.Given as goal
 
 abbrev pub invariant-loop-other : goal.invariant-loop-other

@@ -1,4 +1,4 @@
-use Rattle.std.proofs.Common.{◌<◌, inl, inr, subst, false, List, Bool, get_or, length, arith, IsTrue}
+use Rattle.script_core.proofs.Common.{◌<◌, inl, inr, subst, false, List, Bool, get_or, length, arith, IsTrue}
 use Rattle.script_core.proofs.DeadlockLemmas.{process_joins, process_stays, all_covered}
 use Rattle.script_core.proofs.deadlock.grown.Goals as goal
 use Rattle.script_core.proofs.deadlock.grown.Goals.{then-not-next-p+then-leads_into, else-not-next-p, else-not-next-p-via-then-not-next-p+else-leads_into, else-not-next-p-via-else-not-next-p}

@@ -1,4 +1,4 @@
-use Rattle.script_core.specs.declared.deadlock.Start.TheVariants.{Wanted}
+use Rattle.script_core.proofs.Common.{Wanted}
 use Rattle.script_core.proofs.DeadlockLemmas.{layers_more, layers_end, no_cycle, no_link, some_link}
 use Rattle.script_core.proofs.deadlock.layers_to.Goals as goal
 

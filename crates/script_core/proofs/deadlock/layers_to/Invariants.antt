@@ -1,4 +1,5 @@
-use Rattle.std.proofs.Common.{not, count_by}
+use Rattle.script_core.proofs.Common.{not}
+use Rattle.std.proofs.Common.{count_by}
 use Rattle.script_core.proofs.DeadlockLemmas.{AreLayersSoFar}
 use Rattle.script_core.proofs.deadlock.layers_to.Given as goal
 

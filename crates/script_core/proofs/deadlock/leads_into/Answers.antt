@@ -1,5 +1,4 @@
-use Rattle.std.proofs.Common.{arith}
-use Rattle.std.proofs.lemmas.Grind.{common_steps}
+use Rattle.script_core.proofs.Common.{arith, common_steps}
 use Rattle.script_core.proofs.DeadlockLemmas.{leads_some}
 use Rattle.script_core.proofs.deadlock.leads_into.Goals as goal
 

@@ -1,5 +1,4 @@
-use Rattle.std.proofs.Common.{ℕ, ◌<◌, get_or, false, IsFalse}
-use Rattle.script_core.specs.Deadlocks.{LeadsInReport}
+use Rattle.script_core.proofs.Common.{ℕ, ◌<◌, get_or, false, IsFalse, LeadsInReport}
 use Rattle.script_core.proofs.deadlock.least_link.Given as goal
 
 abbrev pub invariant-loop-q : goal.invariant-loop-q

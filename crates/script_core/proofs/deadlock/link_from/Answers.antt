@@ -1,5 +1,4 @@
-use Rattle.std.proofs.lemmas.Option.{slice_get_within}
-use Rattle.std.proofs.Common.{arith}
+use Rattle.script_core.proofs.Common.{slice_get_within, arith}
 use Rattle.script_core.proofs.deadlock.link_from.Goals as goal
 
 pub returns : goal.returns

@@ -1,4 +1,4 @@
-use Rattle.std.proofs.Common.{ℕ, ◌<◌}
+use Rattle.script_core.proofs.Common.{ℕ, ◌<◌}
 use Rattle.script_core.specs.Deadlocks.{BlocksAt}
 use Rattle.script_core.proofs.deadlock.link_from.Given as goal
 

@@ -1,5 +1,4 @@
-use Rattle.std.proofs.lemmas.Grind.{common_steps}
-use Rattle.std.proofs.Common.{arith}
+use Rattle.script_core.proofs.Common.{common_steps, arith}
 use Rattle.script_core.proofs.DeadlockLemmas.{none_left, gone_more, all_told}
 use Rattle.script_core.proofs.deadlock.links_through.Goals as goal
 

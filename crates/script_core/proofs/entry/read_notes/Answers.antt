@@ -1,12 +1,8 @@
-use Rattle.std.proofs.Common.{arith, ◌≡◌, ◌<◌, [], List, length, map, take, get_or, Option, Some, None, Ok, subst, lit<}
-use Rattle.std.proofs.lemmas.Grind.{common_steps}
+use Rattle.script_core.proofs.Common.{arith, ◌≡◌, ◌<◌, [], List, length, map, take, get_or, Option, Some, None, Ok, subst, lit<, common_steps, err_from_is_err_and, pieces_of, NotesGive, words_of}
 use Rattle.std.specs.Iterator.{Yields}
 use Rattle.std.proofs.lemmas.Iterator.{YieldsList}
 use Rattle.std.proofs.lemmas.Iterator.Consumers.{YieldsList-at, YieldsList-so_far, YieldsList-turn, YieldsList-end}
 use Rattle.std.proofs.lemmas.Iterator.Splits.{YieldsList-from_str_split}
-use Rattle.std.proofs.lemmas.Result.{err_from_is_err_and}
-use Rattle.script_core.specs.EntryReading.{pieces_of, NotesGive}
-use Rattle.script_core.specs.Words.{words_of}
 use Rattle.script_core.proofs.EntryLemmas.{notes_one, notes_fault, notes_wanted}
 use Rattle.script_core.proofs.FaultLemmas.{note_never_memory}
 use Rattle.script_core.proofs.entry.read_notes.Goals as goal

@@ -1,6 +1,4 @@
-use Rattle.std.proofs.Common.{None, Some, Ok, Err, refl, ◌∙◌, ap}
-use Rattle.std.proofs.lemmas.Result.{err_from_is_err_and}
-use Rattle.script_core.specs.Words.{words_of}
+use Rattle.script_core.proofs.Common.{None, Some, Ok, Err, refl, ◌∙◌, ap, err_from_is_err_and, words_of}
 use Rattle.script_core.proofs.EntryLemmas.{split_pieces}
 use Rattle.script_core.proofs.FaultLemmas.{taken_never_memory}
 use Rattle.script_core.proofs.entry.read_pieces.Goals as goal

@@ -1,5 +1,4 @@
-use Rattle.std.proofs.Common.{arith}
-use Rattle.std.proofs.lemmas.Grind.{common_steps}
+use Rattle.script_core.proofs.Common.{arith, common_steps}
 use Rattle.script_core.proofs.NoteLemmas.{taken_first_words}
 use Rattle.script_core.proofs.entry.read_taken.Goals as goal
 

@@ -1,6 +1,4 @@
-use Rattle.std.proofs.Common.{◌≡◌, ◌++◌, codes, flat_map, take}
-use Rattle.script_core.specs.RequestText.{request_text}
-use Rattle.script_core.specs.EntryText.{tag, note_text}
+use Rattle.script_core.proofs.Common.{◌≡◌, ◌++◌, codes, flat_map, take, request_text, tag, note_text}
 use Rattle.script_core.proofs.entry_text.push_event.Given as goal
 
 abbrev pub invariant-loop-note : goal.invariant-loop-note

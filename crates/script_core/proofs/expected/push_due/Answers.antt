@@ -1,5 +1,4 @@
-use Rattle.std.proofs.Common.{codes}
-use Rattle.script_core.specs.ReportReading.{line_text}
+use Rattle.script_core.proofs.Common.{codes, line_text}
 use Rattle.script_core.proofs.TextLemmas.{then_pushed}
 use Rattle.script_core.proofs.expected.push_due.Goals as goal
 

@@ -1,10 +1,4 @@
-use Rattle.std.proofs.Common.{List, ◌∙◌, sym, ap, subst}
-use Rattle.lock_book.specs.declared.Held.{Held}
-use Rattle.lock_book.specs.Changes.{mode_in, flock_mode_in}
-use Rattle.lock_book.specs.Reports.{IsHeldReport}
-use Rattle.lock_manager.specs.Asking.{AsksFor}
-use Rattle.session_core.specs.Event.{Event}
-use Rattle.script_core.specs.Explaining.{is_deadlock}
+use Rattle.script_core.proofs.Common.{List, ◌∙◌, sym, ap, subst, Held, mode_in, flock_mode_in, IsHeldReport, AsksFor, Event, is_deadlock}
 use Rattle.script_core.proofs.ExplainLemmas.{cycle_found}
 use Rattle.script_core.proofs.explain.deadlock_of.Goals as goal
 

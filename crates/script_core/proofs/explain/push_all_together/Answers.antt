@@ -1,9 +1,4 @@
-use Rattle.std.proofs.Common.{◌≡◌, ◌+◌, ◌++◌, Bool, [], ap, sym, ◌∙◌, append-nil, if◌then◌else◌}
-use Rattle.lock_manager.specs.State.{State}
-use Rattle.lock_manager.specs.Sections.{is_together}
-use Rattle.lock_manager.specs.ManagerView.{StandsFor}
-use Rattle.session_core.specs.Event.{Event}
-use Rattle.script_core.specs.Explaining.{together_line}
+use Rattle.script_core.proofs.Common.{◌≡◌, ◌+◌, ◌++◌, Bool, [], ap, sym, ◌∙◌, append-nil, if◌then◌else◌, State, is_together, StandsFor, Event, together_line}
 use Rattle.script_core.proofs.TextLemmas.{extends_on}
 use Rattle.script_core.proofs.ExplainLemmas.{none_together, told_together}
 use Rattle.script_core.proofs.explain.push_all_together.Goals as goal

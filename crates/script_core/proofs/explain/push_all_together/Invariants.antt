@@ -1,8 +1,4 @@
-use Rattle.std.proofs.Common.{◌≡◌, ◌++◌}
-use Rattle.lock_manager.specs.State.{State}
-use Rattle.lock_manager.specs.ManagerView.{StandsFor}
-use Rattle.script_core.specs.Explaining.{together_lines}
-use Rattle.script_core.specs.Output.{Extends}
+use Rattle.script_core.proofs.Common.{◌≡◌, ◌++◌, State, StandsFor, together_lines, Extends}
 use Rattle.script_core.proofs.explain.push_all_together.Given as goal
 
 abbrev pub invariant-loop-index : goal.invariant-loop-index

@@ -1,5 +1,4 @@
-use Rattle.std.proofs.Common.{arith, append-nil}
-use Rattle.std.proofs.lemmas.Grind.{common_steps}
+use Rattle.script_core.proofs.Common.{arith, append-nil, common_steps}
 use Rattle.script_core.proofs.explain.push_ended_of.Goals as goal
 
 pub returns-in-Some-clause-ok : goal.returns-in-Some-clause-ok

@@ -1,5 +1,4 @@
-use Rattle.std.proofs.Common.{◌∷◌, ◌++◌, [], codes, append_assoc}
-use Rattle.script_core.specs.EntryText.{tag}
+use Rattle.script_core.proofs.Common.{◌∷◌, ◌++◌, [], codes, append_assoc, tag}
 use Rattle.script_core.proofs.TextLemmas.{then_pushed}
 use Rattle.script_core.proofs.ExplainLemmas.{told_behind}
 use Rattle.script_core.proofs.explain.push_ended_wait.Goals as goal

@@ -1,8 +1,6 @@
 use Rattle.script_core.proofs.FilesLemmas.{opening_files}
 use Rattle.script_core.proofs.DeadlockStepLemmas.{opening_settled}
-use Rattle.std.proofs.Common.{append-nil, arith, ◌≡◌, ◌+◌, ℕ, ap}
-use Rattle.std.proofs.lemmas.Grind.{common_steps}
-use Rattle.std.proofs.lemmas.Result.{err_from_is_err_and}
+use Rattle.script_core.proofs.Common.{append-nil, arith, ◌≡◌, ◌+◌, ℕ, ap, common_steps, err_from_is_err_and}
 use Rattle.script_core.proofs.TextLemmas.{kept_behind}
 use Rattle.script_core.proofs.ExplainLemmas.{kept_again, explained_more, all_explained}
 use Rattle.script_core.proofs.StateLemmas.{StateTold, kept_first}

@@ -1,4 +1,4 @@
-use Rattle.std.proofs.Common.{◌≡◌}
+use Rattle.script_core.proofs.Common.{◌≡◌}
 use Rattle.script_core.proofs.ExplainLemmas.{HasExplained}
 use Rattle.script_core.proofs.explain.push_explained.Given as goal
 

@@ -1,5 +1,4 @@
-use Rattle.std.proofs.Common.{ap, codes}
-use Rattle.script_core.specs.ReportText.{held_line, wait_line}
+use Rattle.script_core.proofs.Common.{ap, codes, held_line, wait_line}
 use Rattle.script_core.specs.Explaining.{in_the_way_line}
 use Rattle.script_core.proofs.ExplainLemmas.{told_behind}
 use Rattle.script_core.proofs.explain.push_in_the_way.Goals as goal

@@ -1,4 +1,4 @@
-use Rattle.std.proofs.Common.{◌≡◌, ◌++◌, flat_map, take}
+use Rattle.script_core.proofs.Common.{◌≡◌, ◌++◌, flat_map, take}
 use Rattle.script_core.specs.Explaining.{loss_line}
 use Rattle.script_core.proofs.explain.push_losses.Given as goal
 

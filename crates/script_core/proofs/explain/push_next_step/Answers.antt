@@ -1,6 +1,4 @@
-use Rattle.std.proofs.Common.{ℕ, ◌≡◌, ◌++◌, ap, ◌∙◌, codes, decimal}
-use Rattle.script_core.specs.EntryText.{tag}
-use Rattle.script_core.specs.Deadlocks.{step_text, next_step_text}
+use Rattle.script_core.proofs.Common.{ℕ, ◌≡◌, ◌++◌, ap, ◌∙◌, codes, decimal, tag, step_text, next_step_text}
 use Rattle.script_core.proofs.TextLemmas.{then_pushed}
 use Rattle.script_core.proofs.ExplainLemmas.{and_then}
 use Rattle.script_core.proofs.explain.push_next_step.Goals as goal

@@ -1,5 +1,4 @@
-use Rattle.std.proofs.Common.{◌≡◌, ◌++◌, flat_map, take}
-use Rattle.script_core.specs.Deadlocks.{next_step_text}
+use Rattle.script_core.proofs.Common.{◌≡◌, ◌++◌, flat_map, take, next_step_text}
 use Rattle.script_core.proofs.explain.push_next_steps.Given as goal
 
 abbrev pub invariant-loop-link : goal.invariant-loop-link

@@ -1,14 +1,7 @@
-use Rattle.std.proofs.Common.{◌++◌, List, Option, codes, ap, subst, sym, ◌∙◌, ◌≡◌}
-use Rattle.lock_book.specs.declared.Held.{Held}
-use Rattle.lock_manager.specs.State.{State}
-use Rattle.lock_manager.specs.Step.{Step}
-use Rattle.lock_manager.specs.ManagerView.{StandsFor, rules_of, processes_of}
-use Rattle.session_core.specs.Event.{Event}
-use Rattle.script_core.specs.EntryText.{entry_line}
-use Rattle.script_core.specs.Output.{Extends}
-use Rattle.script_core.specs.declared.deadlock.Link.{Link}
+use Rattle.script_core.proofs.Common.{◌++◌, List, Option, codes, ap, subst, sym, ◌∙◌, ◌≡◌, Held, State, Step, StandsFor, processes_of, Event, entry_line, Extends, Link, loss_lines, obstacle_line, deadlock_line}
+use Rattle.lock_manager.specs.ManagerView.{rules_of}
 use Rattle.script_core.specs.Losses.{flock_before, lost_of}
-use Rattle.script_core.specs.Explaining.{IsCycleOf, loss_lines, obstacle_line, deadlock_line}
+use Rattle.script_core.specs.Explaining.{IsCycleOf}
 use Rattle.script_core.proofs.TextLemmas.{kept_behind}
 use Rattle.script_core.proofs.ExplainLemmas.{and_then, explains_step, if_done, if_failed}
 use Rattle.script_core.proofs.explain.push_step.Goals as goal

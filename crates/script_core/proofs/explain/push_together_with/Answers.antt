@@ -1,4 +1,4 @@
-use Rattle.std.proofs.Common.{ℕ, ◌≡◌, ◌∷◌, ◌++◌, [], List, ap, ◌∙◌, codes, decimal, append_assoc}
+use Rattle.script_core.proofs.Common.{ℕ, ◌≡◌, ◌∷◌, ◌++◌, [], List, ap, ◌∙◌, codes, decimal, append_assoc}
 use Rattle.script_core.proofs.TextLemmas.{then_pushed}
 use Rattle.script_core.proofs.ExplainLemmas.{and_then, told_behind}
 use Rattle.script_core.proofs.explain.push_together_with.Goals as goal

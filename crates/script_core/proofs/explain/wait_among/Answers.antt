@@ -1,9 +1,8 @@
-use Rattle.std.proofs.Common.{◌∙◌, rules}
+use Rattle.script_core.proofs.Common.{◌∙◌, rules, Wait}
 use Rattle.std.specs.Prelude.{◌==◌}
 use borrow.Author.Tests.{tests}
 use Rattle.std.proofs.lemmas.Iterator.{YieldsList-from_slice}
 use Rattle.std.proofs.lemmas.Iterator.Search.{find_from_yields_List}
-use Rattle.wait_core.specs.declared.Wait.{Wait}
 use Rattle.script_core.proofs.explain.wait_among.Goals as goal
 
 pub returns : goal.returns

@@ -1,6 +1,4 @@
-use Rattle.std.proofs.Common.{sym}
-use Rattle.script_core.specs.Words.{words_of}
-use Rattle.script_core.specs.ScriptView.{reading_of}
+use Rattle.script_core.proofs.Common.{sym, words_of, reading_of}
 use Rattle.script_core.proofs.FirstWordsLemmas.{first_words_give, words_skipped}
 use Rattle.script_core.proofs.line.parse_text.Goals as goal
 

@@ -1,5 +1,4 @@
-use Rattle.std.proofs.Common.{◌≡◌, map, take}
-use Rattle.script_core.specs.Losses.{byte_line}
+use Rattle.script_core.proofs.Common.{◌≡◌, map, take, byte_line}
 use Rattle.script_core.proofs.losses.byte_lines.Given as goal
 
 abbrev pub invariant-loop-mode : goal.invariant-loop-mode

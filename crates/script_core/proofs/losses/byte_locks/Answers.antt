@@ -1,4 +1,4 @@
-use Rattle.std.proofs.Common.{ap}
+use Rattle.script_core.proofs.Common.{ap}
 use Rattle.std.specs.Option.{option_copied}
 use Rattle.script_core.proofs.LossLemmas.{listed_result, unlisted_result}
 use Rattle.script_core.proofs.losses.byte_locks.Goals as goal

@@ -1,10 +1,7 @@
-use Rattle.std.proofs.lemmas.Grind.{common_steps}
-use Rattle.std.proofs.Common.{ℕ, ◌≡◌, Option, None, arith, ap, sym, subst, ◌∙◌}
+use Rattle.script_core.proofs.Common.{common_steps, ℕ, ◌≡◌, Option, None, arith, ap, sym, subst, ◌∙◌, Description, mode_in}
 use Rattle.std.specs.Option.{option_copied}
 use Rattle.range_core.specs.declared.list.RangeList.{RangeList}
-use Rattle.lock_book.specs.declared.Owner.TheVariants.{Description}
 use Rattle.lock_book.specs.OwnerLists.{modes_in_list}
-use Rattle.lock_book.specs.Changes.{mode_in}
 use Rattle.script_core.proofs.LossLemmas.{empty_runs, none_listed, unlisted}
 use Rattle.script_core.proofs.losses.has_lock.Goals as goal
 

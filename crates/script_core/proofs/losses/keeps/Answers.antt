@@ -1,7 +1,4 @@
-use Rattle.std.proofs.lemmas.Grind.{common_steps}
-use Rattle.std.proofs.Common.{◌≡◌, ◌<◌, true, arith, ap, sym, ◌∙◌}
-use Rattle.fd_table.specs.Descriptors.{descriptor_limit, look_at}
-use Rattle.script_core.specs.Losses.{is_such, stays_on}
+use Rattle.script_core.proofs.Common.{common_steps, ◌≡◌, ◌<◌, true, arith, ap, sym, ◌∙◌, descriptor_limit, look_at, is_such, stays_on}
 use Rattle.script_core.proofs.LossLemmas.{none_open, next_open, found_open}
 use Rattle.script_core.proofs.losses.keeps.Goals as goal
 

@@ -1,7 +1,4 @@
-use Rattle.std.proofs.Common.{◌≡◌, filter, take}
-use Rattle.fd_table.specs.Descriptors.{descriptor_limit}
-use Rattle.lock_manager.specs.State.{State}
-use Rattle.lock_manager.specs.ManagerView.{StandsFor, processes_of}
+use Rattle.script_core.proofs.Common.{◌≡◌, filter, take, descriptor_limit, State, StandsFor, processes_of}
 use Rattle.script_core.specs.Losses.{is_released}
 use Rattle.script_core.proofs.losses.released_by_end.Given as goal
 

@@ -1,8 +1,4 @@
-use Rattle.std.proofs.lemmas.Grind.{common_steps}
-use Rattle.std.proofs.Common.{◌≡◌, ◌+◌, ◌<◌, ◌&&◌, Bool, true, arith, ap, sym, ◌∙◌}
-use Rattle.lock_manager.specs.ManagerView.{processes_of}
-use Rattle.script_core.specs.Losses.{is_alive, keeps}
-use Rattle.fd_table.specs.Descriptors.{descriptor_limit}
+use Rattle.script_core.proofs.Common.{common_steps, ◌≡◌, ◌+◌, ◌<◌, ◌&&◌, Bool, true, arith, ap, sym, ◌∙◌, processes_of, is_alive, keeps, descriptor_limit}
 use Rattle.script_core.proofs.LossLemmas.{nobody_yet, nobody_more, somebody}
 use Rattle.script_core.proofs.losses.stays_open.Goals as goal
 

@@ -1,8 +1,4 @@
-use Rattle.std.proofs.Common.{◌≡◌, false}
-use Rattle.fd_table.specs.Descriptors.{descriptor_limit}
-use Rattle.lock_manager.specs.State.{State}
-use Rattle.lock_manager.specs.ManagerView.{StandsFor}
-use Rattle.script_core.specs.Losses.{stays_open}
+use Rattle.script_core.proofs.Common.{◌≡◌, false, descriptor_limit, State, StandsFor, stays_open}
 use Rattle.script_core.proofs.losses.stays_open.Given as goal
 
 abbrev pub invariant-loop-index : goal.invariant-loop-index

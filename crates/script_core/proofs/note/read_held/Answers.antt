@@ -1,7 +1,4 @@
-use Rattle.std.proofs.lemmas.Grind.{common_steps}
-use Rattle.std.proofs.Common.{◌≡◌, [], ◌∷◌, ℕ, ◌<◌, ◌≤◌, List, length, get_or, Bor, refl, inl, inr, rules, arith}
-use Rattle.std.proofs.lemmas.Result.{err_from_is_err_and}
-use Rattle.script_core.specs.Words.{texts}
+use Rattle.script_core.proofs.Common.{common_steps, ◌≡◌, [], ◌∷◌, ℕ, ◌<◌, ◌≤◌, List, length, get_or, Bor, refl, inl, inr, rules, arith, err_from_is_err_and, texts}
 use Rattle.script_core.proofs.note.read_held.Goals as goal
 
 nothing : Bor (List ℕ)

@@ -1,5 +1,4 @@
-use Rattle.std.proofs.Common.{arith}
-use Rattle.std.proofs.lemmas.Grind.{common_steps}
+use Rattle.script_core.proofs.Common.{arith, common_steps}
 use Rattle.script_core.proofs.NoteLemmas.{note_first_words}
 use Rattle.script_core.proofs.note.read_note.Goals as goal
 

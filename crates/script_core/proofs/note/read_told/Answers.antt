@@ -1,12 +1,4 @@
-use Rattle.std.proofs.lemmas.Grind.{common_steps}
-use Rattle.std.proofs.Common.{◌≡◌, ℕ, ◌-◌, ◌≤◌, [], ◌∷◌, List, length, drop, take, get_or, false, codes, Result, Ok, Err, MatchResult, Bor, arith, bytes_eq}
-use Rattle.std.proofs.lemmas.Result.{err_from_is_err_and}
-use Rattle.lock_manager.specs.declared.request.Reply.{Reply}
-use Rattle.lock_manager.specs.declared.request.Note.{Note}
-use Rattle.lock_manager.specs.declared.request.Note.TheVariants.{Answer}
-use Rattle.script_core.specs.declared.script.Cause.{Cause}
-use Rattle.script_core.specs.Words.{texts}
-use Rattle.script_core.specs.EntryReading.{ReplyGives, ToldGives}
+use Rattle.script_core.proofs.Common.{common_steps, ◌≡◌, ℕ, ◌-◌, ◌≤◌, [], ◌∷◌, List, length, drop, take, get_or, false, codes, Result, Ok, Err, MatchResult, Bor, arith, bytes_eq, err_from_is_err_and, Reply, Note, Answer, Cause, texts, ReplyGives, ToldGives}
 use Rattle.script_core.proofs.note.read_told.Goals as goal
 
 nothing : Bor (List ℕ)

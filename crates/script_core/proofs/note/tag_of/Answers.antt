@@ -1,10 +1,6 @@
-use Rattle.std.proofs.Common.{arith, ◌≡◌, ℕ, List, None, Some, Result, MatchResult, decimal}
-use Rattle.std.proofs.lemmas.Grind.{common_steps}
+use Rattle.script_core.proofs.Common.{arith, ◌≡◌, ℕ, List, None, Some, Result, MatchResult, decimal, common_steps, Limits, Cause, IsProcess}
 use Rattle.std.specs.Result.{result_ok}
-use Rattle.fd_table.specs.declared.Limits.{Limits}
-use Rattle.script_core.specs.declared.script.Cause.{Cause}
 use Rattle.script_core.specs.Arguments.{ProcessNumber, IsBad}
-use Rattle.script_core.specs.ScriptText.{IsProcess}
 use Rattle.script_core.specs.EntryReading.{IsTag}
 use Rattle.script_core.proofs.EntryLemmas.{tag_cut}
 use Rattle.script_core.proofs.note.tag_of.Goals as goal

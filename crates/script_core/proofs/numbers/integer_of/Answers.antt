@@ -1,5 +1,4 @@
-use Rattle.std.proofs.lemmas.Grind.{common_steps}
-use Rattle.std.proofs.Common.{Some, None, lit<, arith}
+use Rattle.script_core.proofs.Common.{common_steps, Some, None, lit<, arith}
 use Rattle.std.proofs.lemmas.Str.Pattern.{strip_prefix_char}
 use Rattle.script_core.proofs.NumberLemmas.{unsigned_none, unsigned_some, signed_none, signed_zero, signed_some}
 use Rattle.script_core.proofs.numbers.integer_of.Goals as goal

@@ -1,5 +1,4 @@
-use Rattle.std.proofs.Common.{arith}
-use Rattle.std.proofs.lemmas.Grind.{common_steps}
+use Rattle.script_core.proofs.Common.{arith, common_steps}
 use Rattle.script_core.proofs.NumberLemmas.{BeginsPlainly-decimal, natural_from_parse}
 use Rattle.script_core.proofs.numbers.natural_of.Goals as goal
 

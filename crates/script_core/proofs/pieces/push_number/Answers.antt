@@ -1,5 +1,4 @@
-use Rattle.std.proofs.Common.{◌≡◌, ◌-◌, drop, decimal, arith, lit<, append-nil, rules}
-use Rattle.std.proofs.lemmas.Fmt.{decimal_digit, length-decimal-le}
+use Rattle.script_core.proofs.Common.{◌≡◌, ◌-◌, drop, decimal, arith, lit<, append-nil, rules, decimal_digit, length-decimal-le}
 use Rattle.script_core.proofs.TextLemmas.{number_piece, two_digits}
 use Rattle.script_core.proofs.pieces.push_number.Goals as goal
 

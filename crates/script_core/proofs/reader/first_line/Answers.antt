@@ -1,5 +1,4 @@
-use Rattle.std.proofs.Common.{arith}
-use Rattle.std.proofs.lemmas.Grind.{common_steps}
+use Rattle.script_core.proofs.Common.{arith, common_steps}
 use Rattle.std.proofs.lemmas.List.{take_rest}
 use Rattle.script_core.proofs.ScriptLemmas.{lines_cut}
 use Rattle.script_core.proofs.reader.first_line.Goals as goal

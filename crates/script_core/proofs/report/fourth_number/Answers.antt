@@ -1,4 +1,4 @@
-use Rattle.std.proofs.Common.{rules, ◌<◌, ◌^◌, IfSome, decimal}
+use Rattle.script_core.proofs.Common.{rules, ◌<◌, ◌^◌, IfSome, decimal}
 use Rattle.script_core.proofs.ReportReadingLemmas.{fourth_of, number_read}
 use Rattle.script_core.proofs.report.fourth_number.Goals as goal
 

@@ -1,4 +1,4 @@
-use Rattle.std.proofs.Common.{refl}
+use Rattle.script_core.proofs.Common.{refl}
 use Rattle.script_core.proofs.ReportReadingLemmas.{skips_one}
 use Rattle.script_core.proofs.report.passed.Goals as goal
 

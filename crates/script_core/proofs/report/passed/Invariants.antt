@@ -1,4 +1,4 @@
-use Rattle.std.proofs.Common.{drop}
+use Rattle.script_core.proofs.Common.{drop}
 use Rattle.script_core.proofs.ReportReadingLemmas.{SkipsTo}
 use Rattle.script_core.proofs.report.passed.Given as goal
 

@@ -1,4 +1,4 @@
-use Rattle.std.proofs.Common.{◌≡◌, ◌++◌, map, take}
+use Rattle.script_core.proofs.Common.{◌≡◌, ◌++◌, map, take}
 use Rattle.script_core.specs.declared.report.ReportLine.TheVariants.{Held}
 use Rattle.script_core.proofs.report.push_locks.Given as goal
 

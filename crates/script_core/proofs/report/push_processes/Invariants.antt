@@ -1,10 +1,5 @@
-use Rattle.std.proofs.Common.{◌≡◌, ◌++◌, ℕ, All, List}
-use Rattle.lock_manager.specs.declared.request.Rules.{Rules}
-use Rattle.lock_manager.specs.State.{State}
-use Rattle.session_core.specs.Event.{Event}
-use Rattle.session_core.specs.Runs.{IsRun}
+use Rattle.script_core.proofs.Common.{◌≡◌, ◌++◌, ℕ, All, List, Rules, State, Event, IsRun, HasFewTaken, lines_from}
 use Rattle.session_core.specs.Checking.{HasAccepted}
-use Rattle.script_core.specs.ReportReading.{HasFewTaken, lines_from}
 use Rattle.script_core.proofs.report.push_processes.Given as goal
 
 abbrev pub invariant-loop-index : goal.invariant-loop-index

@@ -1,5 +1,4 @@
-use Rattle.std.proofs.Common.{◌∙◌, ◌<◌, ◌^◌, ap, arith, codes, decimal, take}
-use Rattle.script_core.specs.Words.{words_of}
+use Rattle.script_core.proofs.Common.{◌∙◌, ◌<◌, ◌^◌, ap, arith, codes, decimal, take, words_of}
 use Rattle.script_core.proofs.ReportReadingLemmas.{process_words}
 use Rattle.script_core.proofs.report.sent_in.Goals as goal
 

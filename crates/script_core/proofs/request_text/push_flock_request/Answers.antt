@@ -1,4 +1,4 @@
-use Rattle.std.proofs.Common.{rules, append_assoc}
+use Rattle.script_core.proofs.Common.{rules, append_assoc}
 use Rattle.script_core.proofs.TextLemmas.{join_words}
 use Rattle.script_core.proofs.request_text.push_flock_request.Goals as goal
 

@@ -1,6 +1,4 @@
-use Rattle.std.proofs.lemmas.Grind.{common_steps}
-use Rattle.std.proofs.lemmas.Result.{err_from_is_err_and}
-use Rattle.std.proofs.Common.{rules, append_assoc, arith}
+use Rattle.script_core.proofs.Common.{common_steps, err_from_is_err_and, rules, append_assoc, arith}
 use Rattle.script_core.proofs.TextLemmas.{join_words, kept_behind}
 use Rattle.script_core.proofs.request_text.push_lock.Goals as goal
 

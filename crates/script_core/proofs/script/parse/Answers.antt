@@ -1,6 +1,4 @@
-use Rattle.std.proofs.Common.{Ok, sym, subst}
-use Rattle.lock_manager.specs.declared.request.Rules.{Rules}
-use Rattle.script_core.specs.Reading.{Reads}
+use Rattle.script_core.proofs.Common.{Ok, sym, subst, Rules, Reads}
 use Rattle.script_core.specs.ScriptView.{HandsOut}
 use Rattle.script_core.proofs.ProcessLemmas.{processes_read}
 use Rattle.script_core.proofs.script.parse.Goals as goal

@@ -1,4 +1,5 @@
-use Rattle.script_core.specs.ScriptView.{HasRead, unread_in}
+use Rattle.script_core.proofs.Common.{HasRead}
+use Rattle.script_core.specs.ScriptView.{unread_in}
 use Rattle.script_core.proofs.script.parse.Given as goal
 
 -- the arrivals that were read are these

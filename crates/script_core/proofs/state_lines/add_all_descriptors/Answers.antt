@@ -1,6 +1,4 @@
-use Rattle.std.proofs.Common.{arith}
-use Rattle.std.proofs.lemmas.Grind.{common_steps}
-use Rattle.fd_table.specs.Descriptors.{descriptor_limit}
+use Rattle.script_core.proofs.Common.{arith, common_steps, descriptor_limit}
 use Rattle.script_core.proofs.StateLemmas.{none_open_anywhere, more_open_anywhere}
 use Rattle.script_core.proofs.state_lines.add_all_descriptors.Goals as goal
 

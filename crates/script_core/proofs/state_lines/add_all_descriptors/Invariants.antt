@@ -1,7 +1,4 @@
-use Rattle.std.proofs.Common.{◌≡◌, ◌++◌}
-use Rattle.fd_table.specs.Descriptors.{descriptor_limit}
-use Rattle.lock_manager.specs.State.{State}
-use Rattle.lock_manager.specs.ManagerView.{StandsFor}
+use Rattle.script_core.proofs.Common.{◌≡◌, ◌++◌, descriptor_limit, State, StandsFor}
 use Rattle.script_core.specs.StateText.{all_descriptor_lines}
 use Rattle.script_core.proofs.state_lines.add_all_descriptors.Given as goal
 

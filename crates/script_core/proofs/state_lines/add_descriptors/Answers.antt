@@ -1,5 +1,4 @@
-use Rattle.std.proofs.Common.{arith}
-use Rattle.std.proofs.lemmas.Grind.{common_steps}
+use Rattle.script_core.proofs.Common.{arith, common_steps}
 use Rattle.script_core.proofs.StateLemmas.{none_open, more_open}
 use Rattle.script_core.proofs.state_lines.add_descriptors.Goals as goal
 

@@ -1,6 +1,4 @@
-use Rattle.std.proofs.Common.{arith}
-use Rattle.std.proofs.lemmas.Grind.{common_steps}
-use Rattle.lock_manager.specs.ManagerView.{state_at}
+use Rattle.script_core.proofs.Common.{arith, common_steps, state_at}
 use Rattle.script_core.proofs.StateLemmas.{none_standing, more_standing}
 use Rattle.script_core.proofs.state_lines.add_processes.Goals as goal
 

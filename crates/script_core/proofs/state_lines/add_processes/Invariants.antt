@@ -1,5 +1,4 @@
-use Rattle.std.proofs.Common.{◌≡◌, ◌++◌}
-use Rattle.lock_manager.specs.ManagerView.{state_at}
+use Rattle.script_core.proofs.Common.{◌≡◌, ◌++◌, state_at}
 use Rattle.script_core.specs.StateText.{standing_lines}
 use Rattle.script_core.proofs.state_lines.add_processes.Given as goal
 

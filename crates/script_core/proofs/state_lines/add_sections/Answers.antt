@@ -1,6 +1,4 @@
-use Rattle.std.proofs.Common.{arith}
-use Rattle.std.proofs.lemmas.Grind.{common_steps}
-use Rattle.lock_manager.specs.ManagerView.{processes_of}
+use Rattle.script_core.proofs.Common.{arith, common_steps, processes_of}
 use Rattle.script_core.proofs.StateLemmas.{none_visited, more_visited}
 use Rattle.script_core.proofs.state_lines.add_sections.Goals as goal
 

@@ -1,6 +1,4 @@
-use Rattle.std.proofs.Common.{◌≡◌, ◌++◌}
-use Rattle.lock_manager.specs.State.{State}
-use Rattle.lock_manager.specs.ManagerView.{StandsFor, processes_of}
+use Rattle.script_core.proofs.Common.{◌≡◌, ◌++◌, State, StandsFor, processes_of}
 use Rattle.script_core.specs.StateText.{section_lines}
 use Rattle.script_core.proofs.state_lines.add_sections.Given as goal
 

@@ -1,6 +1,4 @@
-use Rattle.std.proofs.Common.{◌≡◌, ◌++◌}
-use Rattle.lock_manager.specs.State.{State}
-use Rattle.lock_manager.specs.ManagerView.{StandsFor}
+use Rattle.script_core.proofs.Common.{◌≡◌, ◌++◌, State, StandsFor}
 use Rattle.script_core.specs.StateText.{visit_lines}
 use Rattle.script_core.proofs.state_lines.add_visits.Given as goal
 

@@ -1,4 +1,4 @@
-use Rattle.std.proofs.Common.{◌≡◌, ◌++◌, map, take}
+use Rattle.script_core.proofs.Common.{◌≡◌, ◌++◌, map, take}
 use Rattle.script_core.specs.declared.state_lines.StateLine.TheVariants.{Waits}
 use Rattle.script_core.proofs.state_lines.add_waits.Given as goal
 

@@ -1,8 +1,4 @@
-use Rattle.std.proofs.Common.{◌∙◌, List, rules, subst, sym}
-use Rattle.fd_table.specs.Descriptors.{descriptor_limit}
-use Rattle.lock_book.specs.declared.Held.{Held}
-use Rattle.lock_book.specs.Changes.{mode_in, flock_mode_in}
-use Rattle.lock_book.specs.Reports.{IsHeldReport}
+use Rattle.script_core.proofs.Common.{◌∙◌, List, rules, subst, sym, descriptor_limit, Held, mode_in, flock_mode_in, IsHeldReport}
 use Rattle.script_core.proofs.StateLemmas.{lines_told}
 use Rattle.script_core.proofs.state_lines.whole_state.Goals as goal
 

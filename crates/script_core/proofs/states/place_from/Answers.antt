@@ -1,5 +1,4 @@
-use Rattle.std.proofs.Common.{arith}
-use Rattle.std.proofs.lemmas.Grind.{common_steps}
+use Rattle.script_core.proofs.Common.{arith, common_steps}
 use Rattle.script_core.proofs.StateLemmas.{place_behind}
 use Rattle.script_core.proofs.states.place_from.Goals as goal
 

@@ -1,4 +1,4 @@
-use Rattle.std.proofs.Common.{refl}
+use Rattle.script_core.proofs.Common.{refl}
 use Rattle.script_core.proofs.StateLemmas.{found_at, not_up_to, not_among}
 use Rattle.script_core.proofs.states.place_of.Goals as goal
 

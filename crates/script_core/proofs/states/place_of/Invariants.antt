@@ -1,4 +1,4 @@
-use Rattle.std.proofs.Common.{◌≢◌, ◌<◌, ℕ, Some, slice_get}
+use Rattle.script_core.proofs.Common.{◌≢◌, ◌<◌, ℕ, Some, slice_get}
 use Rattle.script_core.proofs.states.place_of.Given as goal
 
 abbrev pub invariant-loop-place : goal.invariant-loop-place

@@ -1,5 +1,4 @@
-use Rattle.std.proofs.Common.{◌≡◌, ◌++◌, codes, flat_map, take}
-use Rattle.script_core.specs.StateText.{marked_line}
+use Rattle.script_core.proofs.Common.{◌≡◌, ◌++◌, codes, flat_map, take, marked_line}
 use Rattle.script_core.proofs.states.push_lines.Given as goal
 
 abbrev pub invariant-loop-line : goal.invariant-loop-line

@@ -1,6 +1,4 @@
-use Rattle.std.proofs.Common.{arith, flat_map}
-use Rattle.std.proofs.lemmas.Result.{err_from_is_err_and}
-use Rattle.script_core.specs.StateText.{marked_line}
+use Rattle.script_core.proofs.Common.{arith, flat_map, err_from_is_err_and, marked_line}
 use Rattle.script_core.proofs.StateLemmas.{HasMissed-none, HasMissed-there, HasMissed-more}
 use Rattle.script_core.proofs.TextLemmas.{kept_behind}
 use Rattle.script_core.proofs.states.push_missing.Goals as goal

@@ -1,4 +1,4 @@
-use Rattle.std.proofs.Common.{◌≤◌, length, take}
+use Rattle.script_core.proofs.Common.{◌≤◌, length, take}
 use Rattle.script_core.proofs.StateLemmas.{HasMissed}
 use Rattle.script_core.proofs.states.push_missing.Given as goal
 

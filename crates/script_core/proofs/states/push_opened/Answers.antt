@@ -1,4 +1,4 @@
-use Rattle.std.proofs.Common.{rules, append_assoc, sym, ap, ◌∙◌, ◌≡◌, ◌++◌, ℕ, List, codes, decimal}
+use Rattle.script_core.proofs.Common.{rules, append_assoc, sym, ap, ◌∙◌, ◌≡◌, ◌++◌, ℕ, List, codes, decimal}
 use Rattle.script_core.specs.StateText.{access_text}
 use Rattle.script_core.proofs.ExplainLemmas.{and_then}
 use Rattle.script_core.proofs.TextLemmas.{then_pushed}

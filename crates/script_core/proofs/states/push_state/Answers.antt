@@ -1,8 +1,4 @@
-use Rattle.std.proofs.Common.{List, subst, sym}
-use Rattle.fd_table.specs.Descriptors.{descriptor_limit}
-use Rattle.lock_manager.specs.ManagerView.{processes_of}
-use Rattle.script_core.specs.declared.state_lines.StateLine.{StateLine}
-use Rattle.script_core.specs.StateText.{AreStateLines}
+use Rattle.script_core.proofs.Common.{List, subst, sym, descriptor_limit, processes_of, StateLine, AreStateLines}
 use Rattle.script_core.proofs.StateLemmas.{state_pushed}
 use Rattle.script_core.proofs.states.push_state.Goals as goal
 

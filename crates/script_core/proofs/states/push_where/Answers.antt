@@ -1,4 +1,4 @@
-use Rattle.std.proofs.Common.{rules, append_assoc}
+use Rattle.script_core.proofs.Common.{rules, append_assoc}
 use Rattle.script_core.proofs.states.push_where.Goals as goal
 
 pub returns : goal.returns

@@ -1,10 +1,4 @@
-use Rattle.std.proofs.Common.{◌≡◌, ◌+◌, ◌<◌, ◌++◌, length, ap, sym, ◌∙◌, arith, rules, slice_index, [], append-nil}
-use Rattle.lock_manager.specs.ManagerView.{state_at, processes_of}
-use Rattle.session_core.specs.SequencerView.{manager_in}
-use Rattle.script_core.specs.declared.report_text.ProcessLine.{ProcessLine}
-use Rattle.script_core.specs.ReportText.{line_of}
-use Rattle.script_core.specs.Explaining.{untaken_line}
-use Rattle.std.proofs.lemmas.Result.{err_from_is_err_and}
+use Rattle.script_core.proofs.Common.{◌≡◌, ◌+◌, ◌<◌, ◌++◌, length, ap, sym, ◌∙◌, arith, rules, slice_index, [], append-nil, state_at, processes_of, manager_in, ProcessLine, line_of, untaken_line, err_from_is_err_and}
 use Rattle.script_core.proofs.TextLemmas.{kept_behind, extends_on}
 use Rattle.script_core.proofs.UntakenLemmas.{no_untaken, more_untaken}
 use Rattle.script_core.proofs.untaken.push_all_untaken.Goals as goal

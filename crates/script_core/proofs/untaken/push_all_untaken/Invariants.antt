@@ -1,10 +1,4 @@
-use Rattle.std.proofs.Common.{◌≡◌, ℕ, List, ◌++◌}
-use Rattle.lock_manager.specs.ManagerView.{state_at}
-use Rattle.session_core.specs.Event.{Event}
-use Rattle.session_core.specs.SequencerView.{manager_in, HasTold}
-use Rattle.script_core.specs.Output.{Extends}
-use Rattle.script_core.specs.ReportText.{AreCounts}
-use Rattle.script_core.specs.Explaining.{untaken_lines}
+use Rattle.script_core.proofs.Common.{◌≡◌, ℕ, List, ◌++◌, state_at, Event, manager_in, HasTold, Extends, AreCounts, untaken_lines}
 use Rattle.script_core.proofs.untaken.push_all_untaken.Given as goal
 
 abbrev pub invariant-loop-index : goal.invariant-loop-index

@@ -1,5 +1,4 @@
-use Rattle.std.proofs.lemmas.Grind.{common_steps}
-use Rattle.std.proofs.Common.{arith, append-nil}
+use Rattle.script_core.proofs.Common.{common_steps, arith, append-nil}
 use Rattle.script_core.proofs.UntakenLemmas.{never_taken_more, all_taken, none_left}
 use Rattle.script_core.proofs.untaken.push_untaken.Goals as goal
 

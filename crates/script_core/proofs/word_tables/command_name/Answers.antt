@@ -1,4 +1,4 @@
-use Rattle.std.proofs.Common.{codes, refl}
+use Rattle.script_core.proofs.Common.{codes, refl}
 use Rattle.script_core.proofs.ArgumentLemmas.{not_named}
 use Rattle.script_core.proofs.word_tables.command_name.Goals as goal
 

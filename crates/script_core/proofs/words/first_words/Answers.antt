@@ -1,6 +1,4 @@
-use Rattle.std.proofs.lemmas.Grind.{common_steps}
-use Rattle.std.proofs.Common.{◌≡◌, length, take, arith, ap}
-use Rattle.script_core.specs.Words.{texts}
+use Rattle.script_core.proofs.Common.{common_steps, ◌≡◌, length, take, arith, ap, texts}
 use Rattle.script_core.proofs.WordLemmas.{reached_byte, reached_space, reached_end}
 use Rattle.script_core.proofs.words.first_words.Goals.{then-bytes-at-eq32, else-bytes-at-eq32}
 use Rattle.script_core.proofs.words.first_words.Goals as goal

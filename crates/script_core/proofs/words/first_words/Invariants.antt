@@ -1,5 +1,4 @@
-use Rattle.std.proofs.Common.{take, ◌≤◌}
-use Rattle.script_core.specs.Words.{texts}
+use Rattle.script_core.proofs.Common.{take, ◌≤◌, texts}
 use Rattle.script_core.proofs.WordLemmas.{Reached}
 use Rattle.script_core.proofs.words.first_words.Given as goal
 

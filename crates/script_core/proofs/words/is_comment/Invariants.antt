@@ -1,4 +1,4 @@
-use Rattle.std.proofs.Common.{◌≡◌, drop}
+use Rattle.script_core.proofs.Common.{◌≡◌, drop}
 use Rattle.script_core.specs.Words.{begins_with_hash}
 use Rattle.script_core.proofs.words.is_comment.Given as goal
 

@@ -1,5 +1,4 @@
-use Rattle.std.proofs.Common.{◌≡◌, take}
-use Rattle.script_core.specs.Words.{is_printable}
+use Rattle.script_core.proofs.Common.{◌≡◌, take, is_printable}
 use Rattle.script_core.proofs.words.is_printable.Given as goal
 
 abbrev pub invariant-loop-byte : goal.invariant-loop-byte

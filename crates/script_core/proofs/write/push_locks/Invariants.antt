@@ -1,5 +1,4 @@
-use Rattle.std.proofs.Common.{◌≡◌, ◌++◌, flat_map, take}
-use Rattle.script_core.specs.ReportText.{held_line}
+use Rattle.script_core.proofs.Common.{◌≡◌, ◌++◌, flat_map, take, held_line}
 use Rattle.script_core.proofs.write.push_locks.Given as goal
 
 abbrev pub invariant-loop-held : goal.invariant-loop-held

@@ -1,9 +1,4 @@
-use Rattle.std.proofs.Common.{◌≡◌, ◌+◌, ◌<◌, ◌++◌, length, ap, sym, ◌∙◌, arith, rules, slice_index, [], append-nil}
-use Rattle.lock_manager.specs.ManagerView.{state_at, processes_of}
-use Rattle.session_core.specs.SequencerView.{manager_in}
-use Rattle.script_core.specs.declared.report_text.ProcessLine.{ProcessLine}
-use Rattle.script_core.specs.ReportText.{reported_line, line_of}
-use Rattle.std.proofs.lemmas.Result.{err_from_is_err_and}
+use Rattle.script_core.proofs.Common.{◌≡◌, ◌+◌, ◌<◌, ◌++◌, length, ap, sym, ◌∙◌, arith, rules, slice_index, [], append-nil, state_at, processes_of, manager_in, ProcessLine, reported_line, line_of, err_from_is_err_and}
 use Rattle.script_core.proofs.TextLemmas.{kept_behind, extends_on}
 use Rattle.script_core.proofs.ReportLemmas.{no_processes, more_processes}
 use Rattle.script_core.proofs.write.push_processes.Goals as goal

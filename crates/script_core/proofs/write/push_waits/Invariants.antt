@@ -1,5 +1,4 @@
-use Rattle.std.proofs.Common.{◌≡◌, ◌++◌, flat_map, take}
-use Rattle.script_core.specs.ReportText.{wait_line}
+use Rattle.script_core.proofs.Common.{◌≡◌, ◌++◌, flat_map, take, wait_line}
 use Rattle.script_core.proofs.write.push_waits.Given as goal
 
 abbrev pub invariant-loop-wait : goal.invariant-loop-wait

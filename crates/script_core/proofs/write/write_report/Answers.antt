@@ -1,10 +1,5 @@
-use Rattle.std.proofs.Common.{◌≡◌, ◌∙◌, sym, subst}
+use Rattle.script_core.proofs.Common.{◌≡◌, ◌∙◌, sym, subst, mode_in, flock_mode_in, IsHeldReport, State, StandsFor, manager_in}
 use Rattle.std.proofs.lemmas.Result.{IfOk-weaker}
-use Rattle.lock_book.specs.Changes.{mode_in, flock_mode_in}
-use Rattle.lock_book.specs.Reports.{IsHeldReport}
-use Rattle.lock_manager.specs.State.{State}
-use Rattle.lock_manager.specs.ManagerView.{StandsFor}
-use Rattle.session_core.specs.SequencerView.{manager_in}
 use Rattle.script_core.specs.ReportText.{WritesReport}
 use Rattle.script_core.proofs.ReportLemmas.{report_written}
 use Rattle.script_core.proofs.write.write_report.Goals as goal

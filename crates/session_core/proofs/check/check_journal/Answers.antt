@@ -1,4 +1,4 @@
-use Rattle.std.proofs.Common.{[], Err, sym, subst, take}
+use Rattle.session_core.proofs.Common.{[], Err, sym, subst, take}
 use Rattle.session_core.specs.Checking.{Checks, HasAccepted}
 use Rattle.session_core.proofs.runs.ReplayLemmas.{no_run, take_next}
 use Rattle.session_core.proofs.check.check_journal.Goals as goal

@@ -1,4 +1,4 @@
-use Rattle.std.proofs.Common.{take}
+use Rattle.session_core.proofs.Common.{take}
 use Rattle.session_core.specs.Checking.{HasAccepted}
 use Rattle.session_core.proofs.check.check_journal.Given as goal
 

@@ -1,5 +1,4 @@
-use Rattle.std.proofs.Common.{◌≡◌, drop}
-use Rattle.session_core.specs.Mail.{answers_in, reply_among}
+use Rattle.session_core.proofs.Common.{◌≡◌, drop, answers_in, reply_among}
 use Rattle.session_core.proofs.entry.find_reply.Given as goal
 
 -- what isn't found among the notes so far is what the others say

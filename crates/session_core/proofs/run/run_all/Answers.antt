@@ -1,9 +1,7 @@
-use Rattle.std.proofs.Common.{◌∙◌, ap, sym, subst, length, Err, []}
+use Rattle.session_core.proofs.Common.{◌∙◌, ap, sym, subst, length, Err, [], HasRun, manager_of, events_in, sent_of}
 use Rattle.std.proofs.lemmas.Result.{err_from_is_err_and}
 use Rattle.session_core.specs.declared.TheConstants.{N_MAX}
-use Rattle.session_core.specs.Deliveries.{HasRun}
 use Rattle.session_core.proofs.runs.DrainLemmas.{too_many, Err-unique}
-use Rattle.session_core.specs.SessionView.{manager_of, events_in, sent_of}
 use Rattle.session_core.proofs.SessionLemmas.{session_holds}
 use Rattle.session_core.proofs.runs.SequencerLemmas.{HasRun-more, all_run}
 use Rattle.session_core.proofs.run.run_all.Goals as goal

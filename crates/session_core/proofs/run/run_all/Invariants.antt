@@ -1,5 +1,4 @@
-use Rattle.std.proofs.Common.{take}
-use Rattle.session_core.specs.Deliveries.{HasRun}
+use Rattle.session_core.proofs.Common.{take, HasRun}
 use Rattle.session_core.proofs.run.run_all.Given as goal
 
 abbrev pub invariant-loop-p : goal.invariant-loop-p

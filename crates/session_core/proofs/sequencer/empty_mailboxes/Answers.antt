@@ -1,6 +1,5 @@
-use Rattle.std.proofs.Common.{rules, ◌≡◌, ◌∙◌, ◌+◌, ap, sym, subst, length, length-append, All, [], ◌∷◌, ◌++◌}
+use Rattle.session_core.proofs.Common.{rules, ◌≡◌, ◌∙◌, ◌+◌, ap, sym, subst, length, length-append, All, [], ◌∷◌, ◌++◌, IsEmptyMailbox}
 use Rattle.std.proofs.lemmas.List.Elements.{All-push}
-use Rattle.session_core.specs.Mailboxes.{IsEmptyMailbox}
 use Rattle.session_core.proofs.sequencer.empty_mailboxes.Goals as goal
 
 pub loop-preserved : goal.loop-preserved

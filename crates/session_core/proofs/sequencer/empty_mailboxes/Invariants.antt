@@ -1,5 +1,4 @@
-use Rattle.std.proofs.Common.{◌≡◌, length, All}
-use Rattle.session_core.specs.Mailboxes.{IsEmptyMailbox}
+use Rattle.session_core.proofs.Common.{◌≡◌, length, All, IsEmptyMailbox}
 use Rattle.session_core.proofs.sequencer.empty_mailboxes.Given as goal
 
 abbrev pub invariant-loop : goal.invariant-loop

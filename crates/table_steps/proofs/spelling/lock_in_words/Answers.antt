@@ -1,5 +1,4 @@
-use Rattle.std.proofs.Common.{arith}
-use Rattle.std.proofs.lemmas.Grind.{common_steps}
+use Rattle.table_steps.proofs.Common.{arith, common_steps}
 use Rattle.std.proofs.lemmas.Int.{to_z-of_z}
 use Rattle.table_steps.proofs.spelling.lock_in_words.Goals as goal
 

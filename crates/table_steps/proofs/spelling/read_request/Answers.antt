@@ -1,4 +1,4 @@
-use Rattle.std.proofs.Common.{rules}
+use Rattle.table_steps.proofs.Common.{rules}
 use Rattle.table_steps.proofs.SpellingLaws.{lock_read}
 use Rattle.table_steps.proofs.spelling.read_request.Goals as goal
 

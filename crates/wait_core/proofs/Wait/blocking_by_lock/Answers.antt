@@ -1,11 +1,5 @@
-use Rattle.std.proofs.Common.{◌≡◌, ◌∙◌, true, false, sym, arith}
-use Rattle.std.proofs.lemmas.Grind.{common_steps}
+use Rattle.wait_core.proofs.Common.{◌≡◌, ◌∙◌, true, false, sym, arith, common_steps, eqb-true, All-nil, iter_end, modes_of, locks_of}
 use Rattle.std.specs.Map.Iter.{deref_pair}
-use Rattle.std.proofs.lemmas.Bool.{eqb-true}
-use Rattle.std.proofs.lemmas.List.Elements.{All-nil}
-use Rattle.std.proofs.lemmas.Map.Iter.{iter_end}
-use Rattle.range_core.specs.Changes.{modes_of}
-use Rattle.wait_core.specs.Locks.{locks_of}
 use Rattle.wait_core.proofs.ListedLemmas.{IsToldIfBlocking, all_after_put, all_after_skip, free_without_runs, lists_at, modes_in_loop, never_without_modes, only_after_put, told_at_description, told_at_end}
 use Rattle.wait_core.proofs.ProcessLemmas.{none_in}
 use Rattle.wait_core.proofs.Wait.blocking_by_lock.Goals as goal

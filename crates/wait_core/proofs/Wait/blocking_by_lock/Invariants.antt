@@ -1,5 +1,4 @@
-use Rattle.std.proofs.Common.{All}
-use Rattle.wait_core.specs.Locks.{locks_of}
+use Rattle.wait_core.proofs.Common.{All, locks_of}
 use Rattle.wait_core.proofs.ListedLemmas.{IsToldIfBlocking, OnlyBlocking}
 use Rattle.wait_core.proofs.Wait.blocking_by_lock.Given as goal
 

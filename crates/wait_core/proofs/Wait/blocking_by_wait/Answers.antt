@@ -1,13 +1,5 @@
-use Rattle.std.proofs.Common.{ℕ, ◌≤◌, ◌↔◌, sym, subst, arith, Any, length, take}
-use Rattle.std.specs.Map.Iter.{deref}
-use Rattle.std.specs.Prelude.{IsTrue}
-use Rattle.std.proofs.lemmas.Grind.{common_steps}
+use Rattle.wait_core.proofs.Common.{ℕ, ◌≤◌, ◌↔◌, sym, subst, arith, Any, length, take, deref, IsTrue, common_steps, iter_end, All-turn, IsConflictOf, is_member, IsWellFormed}
 use Rattle.std.proofs.lemmas.List.{take_all}
-use Rattle.std.proofs.lemmas.Map.Iter.{iter_end}
-use Rattle.std.proofs.lemmas.Map.Views.{All-turn}
-use Rattle.wait_core.specs.Pairs.{IsConflictOf}
-use Rattle.wait_core.specs.Processes.{is_member}
-use Rattle.wait_core.specs.WellFormed.{IsWellFormed}
 use Rattle.wait_core.proofs.AnyLemmas.{Any-nil}
 use Rattle.wait_core.proofs.BlockingLemmas.{conflicts_more, skipped}
 use Rattle.wait_core.proofs.FileLemmas.{turn}

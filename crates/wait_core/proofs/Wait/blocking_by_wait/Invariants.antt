@@ -1,7 +1,4 @@
-use Rattle.std.proofs.Common.{ℕ, ◌↔◌, Any, length, take}
-use Rattle.std.specs.Prelude.{IsTrue}
-use Rattle.wait_core.specs.Pairs.{IsConflictOf}
-use Rattle.wait_core.specs.Processes.{is_member}
+use Rattle.wait_core.proofs.Common.{ℕ, ◌↔◌, Any, length, take, IsTrue, IsConflictOf, is_member}
 use Rattle.wait_core.proofs.Wait.blocking_by_wait.Given as goal
 
 abbrev pub invariant-loop-other : goal.invariant-loop-other

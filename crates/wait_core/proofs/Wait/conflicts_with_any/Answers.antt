@@ -1,8 +1,6 @@
-use Rattle.std.proofs.Common.{rules, refl}
+use Rattle.wait_core.proofs.Common.{rules, refl, cases_from_any, WaitsConflict}
 use borrow.Author.Tests.{tests}
-use Rattle.std.proofs.lemmas.Iterator.{cases_from_any}
 use Rattle.std.proofs.lemmas.Iterator.Consumers.{YieldsList-from_rest}
-use Rattle.wait_core.specs.Blocking.{WaitsConflict}
 use Rattle.wait_core.proofs.FileLemmas.{any_from_cases}
 use Rattle.wait_core.proofs.Wait.conflicts_with_any.Goals as goal
 

@@ -1,7 +1,5 @@
-use Rattle.std.proofs.Common.{◌≡◌, ◌≢◌, ◌∙◌, Some, ap, arith, sym}
-use Rattle.std.proofs.lemmas.Grind.{common_steps}
+use Rattle.wait_core.proofs.Common.{◌≡◌, ◌≢◌, ◌∙◌, Some, ap, arith, sym, common_steps, Process}
 use Rattle.std.specs.Option.{option_copied}
-use Rattle.lock_book.specs.declared.Owner.TheVariants.{Process}
 use Rattle.lock_book.specs.OwnerLists.{modes_in_list}
 use Rattle.wait_core.proofs.BlockingLemmas.{list_blocks}
 use Rattle.wait_core.proofs.Wait.is_blocked_by_list.Goals as goal

@@ -1,4 +1,4 @@
-use Rattle.std.proofs.Common.{refl}
+use Rattle.wait_core.proofs.Common.{refl}
 use Rattle.wait_core.proofs.Wait.waits_for.Goals as goal
 
 pub returns-then-is_traditional : goal.returns-then-is_traditional

@@ -1,4 +1,4 @@
-use Rattle.std.proofs.Common.{refl}
+use Rattle.wait_core.proofs.Common.{refl}
 use Rattle.wait_core.proofs.QueueLemmas.{queue_left}
 use Rattle.wait_core.proofs.waits.forget_ahead.Goals as goal
 

@@ -1,13 +1,9 @@
-use Rattle.std.proofs.Common.{ap, ◌∙◌, sym, subst}
+use Rattle.call_table.proofs.Common.{ap, ◌∙◌, sym, subst, ClientView, DeskView, client_knows, desk_knows, hub_table, hub_setup, client_view, client_table, client_setup, client_process, desk_view, session_in, desk_table, desk_setup}
 use Rattle.table_steps.specs.declared.before.Before.{Before}
-use Rattle.table_steps.specs.declared.client_view.ClientView.{ClientView}
-use Rattle.table_steps.specs.declared.desk_view.DeskView.{DeskView}
-use Rattle.table_steps.specs.Shown.{client_knows, desk_knows}
 use Rattle.table_steps.specs.Steps.{HaveMet}
 use Rattle.call_table.proofs.Meeting.{sits_met, client_met, is_met}
 use Rattle.call_table.proofs.desk.Desk.meet.Goals as goal
-use Rattle.call_table.specs.Shown.{hub_table, hub_setup, client_view, client_table, client_setup, client_process}
-use Rattle.call_table.specs.Desks.{IsMet, desk_view, session_in, desk_table, desk_setup}
+use Rattle.call_table.specs.Desks.{IsMet}
 
 pub of_parts-requires : goal.of_parts-requires
 unfolding hub_table hub_setup client_view client_table client_setup client_process desk_view session_in desk_table desk_setup

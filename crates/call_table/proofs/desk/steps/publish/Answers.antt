@@ -1,7 +1,5 @@
-use Rattle.std.proofs.Common.{arith, ◌≡◌, ◌+◌, ◌-◌, length, sym, ap, ◌∙◌, refl}
-use Rattle.table_steps.specs.declared.desk_view.DeskView.{DeskView}
-use Rattle.table_steps.specs.Shown.{desk_knows}
-use Rattle.table_steps.specs.Views.{tally_at}
+use Rattle.call_table.proofs.Common.{arith, ◌≡◌, ◌+◌, length, sym, ap, ◌∙◌, refl, DeskView, desk_knows, tally_at}
+use Rattle.std.proofs.Common.{◌-◌}
 use Rattle.call_table.proofs.Serving.{answer_six, fills_none, filled_so_far, goes_on, filled_more, filled_all, published_is}
 use Rattle.call_table.proofs.desk.steps.publish.Goals as goal
 

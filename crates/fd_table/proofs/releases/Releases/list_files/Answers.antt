@@ -1,7 +1,5 @@
-use Rattle.std.proofs.Common.{ap, sym, ◌∙◌, arith, get_or, false}
+use Rattle.fd_table.proofs.Common.{ap, sym, ◌∙◌, arith, get_or, false, length_push, IsMarked}
 use Rattle.std.proofs.lemmas.Bool.{false≢true}
-use Rattle.std.proofs.lemmas.List.{length_push}
-use Rattle.fd_table.specs.Releases.{IsMarked}
 use Rattle.fd_table.proofs.ListLemmas.{AreExactly-more, AreExactly-skip}
 use Rattle.fd_table.proofs.releases.Releases.list_files.Goals as goal
 use Rattle.fd_table.proofs.releases.Releases.list_files.Goals.{then-marks-from, else-marks-from}

@@ -1,5 +1,4 @@
-use Rattle.std.proofs.Common.{◌≡◌, ◌<◌, ◌≤◌, length}
-use Rattle.fd_table.specs.Releases.{IsMarked, AreExactly}
+use Rattle.fd_table.proofs.Common.{◌≡◌, ◌<◌, ◌≤◌, length, IsMarked, AreExactly}
 use Rattle.fd_table.proofs.releases.Releases.list_files.Given as goal
 
 -- the files so far are the marked ones below this number

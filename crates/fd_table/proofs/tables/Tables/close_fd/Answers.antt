@@ -1,5 +1,4 @@
-use Rattle.fd_table.specs.Descriptors.{Descriptors}
-use Rattle.fd_table.specs.Releases.{without_one}
+use Rattle.fd_table.proofs.Common.{Descriptors, without_one}
 use Rattle.fd_table.proofs.EntryLemmas.{some_is}
 use Rattle.fd_table.proofs.CallLemmas.{same}
 use Rattle.fd_table.proofs.ReleasedLemmas.{released_one}

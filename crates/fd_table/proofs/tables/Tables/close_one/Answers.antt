@@ -1,7 +1,4 @@
-use Rattle.std.proofs.Common.{rules, arith, ◌≡◌, ◌≢◌, None, refl, sym, ◌∙◌}
-use Rattle.std.proofs.lemmas.Grind.{common_steps}
-use Rattle.slab.proofs.SlabLemmas.{Updates-with_value}
-use Rattle.fd_table.specs.TablesView.{view_of}
+use Rattle.fd_table.proofs.Common.{rules, arith, ◌≡◌, ◌≢◌, None, refl, sym, ◌∙◌, common_steps, Updates-with_value, view_of}
 use Rattle.fd_table.proofs.RowsLemmas.{AreRows-with_key, WithKey-with_key, key_within, has_row-with_key}
 use Rattle.fd_table.proofs.ViewLemmas.{closed_one}
 use Rattle.fd_table.proofs.EntryLemmas.{some_is, removed_after_write}

@@ -1,6 +1,4 @@
-use Rattle.std.proofs.Common.{IsSome, refl, rules}
-use Rattle.fd_table.specs.TablesView.{view_of, limits_of}
-use Rattle.fd_table.specs.Rows.{key_at}
+use Rattle.fd_table.proofs.Common.{IsSome, refl, rules, view_of, limits_of, key_at}
 use Rattle.fd_table.proofs.RowsLemmas.{row_from_key}
 use Rattle.fd_table.proofs.EntryLemmas.{value_of_some}
 use Rattle.fd_table.proofs.CallLemmas.{same, open_at_key, row_full, lowest_free}

@@ -1,8 +1,4 @@
-use Rattle.std.proofs.Common.{◌≢◌, IsSome, refl, sym, ◌∙◌, arith, rules}
-use Rattle.fd_table.specs.Descriptors.{Descriptors, with_descriptor}
-use Rattle.fd_table.specs.Rows.{key_at}
-use Rattle.fd_table.specs.Releases.{without_one}
-use Rattle.fd_table.specs.TablesView.{view_of, limits_of}
+use Rattle.fd_table.proofs.Common.{◌≢◌, IsSome, refl, sym, ◌∙◌, arith, rules, Descriptors, with_descriptor, key_at, without_one, view_of, limits_of}
 use Rattle.fd_table.proofs.ViewLemmas.{stands_for_same}
 use Rattle.fd_table.proofs.EntryLemmas.{value_of_some}
 use Rattle.fd_table.proofs.CallLemmas.{open_at_key}

@@ -1,9 +1,5 @@
-use Rattle.std.proofs.Common.{◌≡◌, ◌<◌, ◌≤◌, ◌+◌, ◌∷◌, ◌++◌, [], ℕ, Bool, List, true, length, refl, sym, ap, subst, ◌∙◌, arith}
-use Rattle.std.proofs.lemmas.List.{length_push, length-set}
-use Rattle.fd_table.specs.declared.TheConstants.{FILES}
-use Rattle.fd_table.specs.Releases.{Released, without_one}
-use Rattle.fd_table.specs.Descriptors.{Descriptors, without_descriptors, descriptor_limit}
-use Rattle.fd_table.specs.TablesView.{StandFor, SameProcesses, view_of}
+use Rattle.fd_table.proofs.Common.{◌≡◌, ◌<◌, ◌≤◌, ◌+◌, ◌∷◌, ◌++◌, [], ℕ, Bool, List, true, length, refl, sym, ap, subst, ◌∙◌, arith, length_push, length-set, FILES, Released, without_one, Descriptors, without_descriptors, descriptor_limit, StandFor, view_of}
+use Rattle.fd_table.specs.TablesView.{SameProcesses}
 use Rattle.fd_table.proofs.RowsLemmas.{key_past}
 use Rattle.fd_table.proofs.ViewLemmas.{stands_for_same}
 use Rattle.fd_table.proofs.CallLemmas.{key_of_open}

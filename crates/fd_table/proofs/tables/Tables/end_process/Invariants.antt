@@ -1,7 +1,5 @@
-use Rattle.std.proofs.Common.{◌≡◌, ◌≤◌, [], length}
-use Rattle.fd_table.specs.declared.TheConstants.{FILES}
-use Rattle.fd_table.specs.Descriptors.{Descriptors, without_descriptors}
-use Rattle.fd_table.specs.TablesView.{StandFor, SameProcesses}
+use Rattle.fd_table.proofs.Common.{◌≡◌, ◌≤◌, [], length, FILES, Descriptors, without_descriptors, StandFor}
+use Rattle.fd_table.specs.TablesView.{SameProcesses}
 use Rattle.fd_table.proofs.EndProcessLemmas.{IsGathered, below}
 use Rattle.fd_table.proofs.tables.Tables.end_process.Given as goal
 

@@ -1,9 +1,6 @@
-use Rattle.std.proofs.lemmas.Grind.{common_steps}
-use Rattle.std.proofs.Common.{◌≡◌, ◌<◌, List, false, length, set, refl, sym, ap, subst, ◌∙◌, arith}
-use Rattle.fd_table.specs.Rows.{Keys, row_at, has_row}
-use Rattle.fd_table.specs.Soundness.{AreEntries}
+use Rattle.fd_table.proofs.Common.{common_steps, ◌≡◌, ◌<◌, List, false, length, set, refl, sym, ap, subst, ◌∙◌, arith, Keys, row_at, has_row, AreEntries, view_of, seen_in}
 use Rattle.fd_table.specs.Descriptors.{with_child}
-use Rattle.fd_table.specs.TablesView.{view_of, processes_of, seen_in, IsSeen}
+use Rattle.fd_table.specs.TablesView.{processes_of, IsSeen}
 use Rattle.fd_table.proofs.RowsLemmas.{row-short}
 use Rattle.fd_table.proofs.ViewLemmas.{forked}
 use Rattle.std.specs.Prelude.{slice_index_or, None}

@@ -1,7 +1,4 @@
-use Rattle.std.proofs.lemmas.Grind.{common_steps}
-use Rattle.std.proofs.Common.{refl, arith}
-use Rattle.fd_table.specs.Descriptors.{descriptor_limit}
-use Rattle.fd_table.specs.TablesView.{view_of}
+use Rattle.fd_table.proofs.Common.{common_steps, refl, arith, descriptor_limit, view_of}
 use Rattle.fd_table.proofs.OpeningLemmas.{AreOpeningRows, opening_keys, opening_born, opening_are_rows, opening_are_entries, opening_size, opening_stands}
 use Rattle.fd_table.proofs.tables.Tables.new.Goals as goal
 

@@ -1,8 +1,4 @@
-use Rattle.std.proofs.Common.{rules, ◌+◌, Some, refl, ap, inl, arith}
-use Rattle.std.proofs.lemmas.Grind.{common_steps}
-use Rattle.slab.specs.Slab.{Slab}
-use Rattle.fd_table.specs.declared.tables.Opened.{Opened}
-use Rattle.fd_table.specs.TablesView.{view_of, limits_of, seen_in}
+use Rattle.fd_table.proofs.Common.{rules, ◌+◌, Some, refl, ap, inl, arith, common_steps, Slab, Opened, view_of, limits_of, seen_in}
 use Rattle.fd_table.proofs.RowsLemmas.{AreRows-with_key, row_inside, has_row-with_key}
 use Rattle.fd_table.proofs.ViewLemmas.{opened_new, stands_for_view}
 use Rattle.fd_table.proofs.ChangeLemmas.{new_entry, entries_opened, seen_opened}

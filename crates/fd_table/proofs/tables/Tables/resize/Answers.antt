@@ -1,7 +1,6 @@
-use Rattle.std.proofs.Common.{◌≡◌, ◌<◌, ap, refl, sym, ◌∙◌, length, pos, rules, w64}
-use Rattle.std.specs.Option.{option_map}
+use Rattle.fd_table.proofs.Common.{◌≡◌, ◌<◌, ap, refl, sym, ◌∙◌, length, pos, rules, option_map, view_of, numbered}
+use Rattle.std.proofs.Common.{w64}
 use Rattle.std.proofs.lemmas.Int.{to_z-of_z}
-use Rattle.fd_table.specs.TablesView.{view_of, numbered}
 use Rattle.fd_table.proofs.CallLemmas.{resize_done, size-set}
 use Rattle.fd_table.proofs.tables.Tables.resize.Goals as goal
 

@@ -1,8 +1,6 @@
-use Rattle.std.proofs.Common.{◌≡◌, refl, sym, ◌∙◌, pos, w64}
+use Rattle.fd_table.proofs.Common.{◌≡◌, refl, sym, ◌∙◌, pos, Updates-with_value, key_at, view_of}
+use Rattle.std.proofs.Common.{w64}
 use Rattle.std.proofs.lemmas.Int.{to_z-of_z}
-use Rattle.slab.proofs.SlabLemmas.{Updates-with_value}
-use Rattle.fd_table.specs.Rows.{key_at}
-use Rattle.fd_table.specs.TablesView.{view_of}
 use Rattle.fd_table.proofs.CallLemmas.{same, key_seen, seen_at_key, is_open, seek_done}
 use Rattle.fd_table.proofs.EntryLemmas.{some_is, entries_moved, moved_shows}
 use Rattle.fd_table.proofs.tables.Tables.seek.Goals as goal

@@ -1,7 +1,4 @@
-use Rattle.std.proofs.lemmas.Grind.{common_steps}
-use Rattle.std.proofs.Common.{Some, refl, sym, ◌∙◌, arith}
-use Rattle.slab.proofs.SlabLemmas.{Updates-with_value}
-use Rattle.fd_table.specs.TablesView.{view_of}
+use Rattle.fd_table.proofs.Common.{common_steps, Some, refl, sym, ◌∙◌, arith, Updates-with_value, view_of}
 use Rattle.fd_table.proofs.RowsLemmas.{AreRows-with_key, key_within, has_row-with_key}
 use Rattle.fd_table.proofs.ViewLemmas.{shared}
 use Rattle.fd_table.proofs.EntryLemmas.{some_is}

@@ -1,6 +1,4 @@
-use Rattle.std.proofs.Common.{◌∙◌, sym, subst}
-use Rattle.std.proofs.lemmas.Bool.{false≢true}
-use Rattle.history_core.specs.ByteLists.{bytes_in}
+use Rattle.history_core.proofs.Common.{◌∙◌, sym, subst, false≢true, bytes_in}
 use Rattle.history_core.proofs.ByteLemmas.{AreHad, had_same, same_bytes}
 use Rattle.history_core.proofs.byte_locks.ByteLocks.gives_same.Goals as goal
 

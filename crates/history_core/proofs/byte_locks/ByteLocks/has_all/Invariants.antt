@@ -1,5 +1,5 @@
-use Rattle.std.proofs.Common.{◌≡◌, ◌≤◌, ◌<◌, ℕ, ◌-◌, Some}
-use Rattle.history_core.specs.ByteView.{bytes_of}
+use Rattle.history_core.proofs.Common.{◌≡◌, ◌≤◌, ◌<◌, ℕ, Some, bytes_of}
+use Rattle.std.proofs.Common.{◌-◌}
 use Rattle.history_core.proofs.byte_locks.ByteLocks.has_all.Given as goal
 
 abbrev pub invariant-loop-lock : goal.invariant-loop-lock

@@ -1,10 +1,9 @@
-use Rattle.std.proofs.Common.{rules, ◌≡◌, Bool, true, false, List, [], ◌∷◌, ◌&&◌, sym, ◌∙◌, refl}
-use Rattle.std.proofs.lemmas.Bool.{eqb-true, false≢true}
+use Rattle.history_core.proofs.Common.{rules, ◌≡◌, Bool, true, false, List, [], ◌∷◌, sym, ◌∙◌, refl, eqb-true, false≢true, ByteLock}
+use Rattle.std.proofs.Common.{◌&&◌}
 use denote.Enum.Bare.{same_true, sameb}
 use lib.Pointwise.{pointwise}
 use lib.Dec.{eqb}
 use Rattle.range_core.specs.contracts.Mode.{the_type}
-use Rattle.history_core.specs.declared.byte_locks.ByteLock.{ByteLock}
 use Rattle.history_core.specs.contracts.byte_locks.ByteLockPartialEq.TheImpl.{eq-value}
 use Rattle.history_core.proofs.byte_locks.ByteLocks.has_same_runs.Goals as goal
 

@@ -1,6 +1,5 @@
-use Rattle.std.proofs.Common.{refl}
+use Rattle.history_core.proofs.Common.{refl, bytes_of}
 use Rattle.history_core.proofs.ByteLemmas.{held_parts}
-use Rattle.history_core.specs.ByteView.{bytes_of}
 use Rattle.history_core.proofs.byte_locks.ByteLocks.holds.Goals as goal
 
 pub returns : goal.returns

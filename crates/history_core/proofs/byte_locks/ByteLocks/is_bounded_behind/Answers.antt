@@ -1,5 +1,4 @@
-use Rattle.std.proofs.Common.{rules, ◌≤◌, ◌+◌, ◌^◌, arith}
-use Rattle.std.proofs.lemmas.Grind.{common_steps}
+use Rattle.history_core.proofs.Common.{rules, ◌≤◌, ◌+◌, ◌^◌, arith, common_steps}
 use Rattle.history_core.proofs.ByteLemmas.{bytes_in-past}
 use Rattle.history_core.proofs.byte_locks.ByteLocks.is_bounded_behind.Goals as goal
 

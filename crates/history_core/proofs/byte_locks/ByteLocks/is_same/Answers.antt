@@ -1,5 +1,4 @@
-use Rattle.std.proofs.Common.{rules, ap}
-use Rattle.history_core.specs.ByteLists.{bytes_in}
+use Rattle.history_core.proofs.Common.{rules, ap, bytes_in}
 use Rattle.history_core.proofs.byte_locks.ByteLocks.is_same.Goals as goal
 
 pub returns-then-has_same_runs : goal.returns-then-has_same_runs

@@ -1,5 +1,4 @@
-use Rattle.std.proofs.Common.{◌≡◌, drop}
-use Rattle.history_core.specs.ByteLists.{bytes_in}
+use Rattle.history_core.proofs.Common.{◌≡◌, drop, bytes_in}
 use Rattle.history_core.proofs.byte_locks.ByteLocks.lock_at.Given as goal
 
 abbrev pub invariant-loop-lock : goal.invariant-loop-lock

@@ -1,4 +1,4 @@
-use Rattle.std.proofs.Common.{rules}
+use Rattle.history_core.proofs.Common.{rules}
 use Rattle.history_core.proofs.ByteLemmas.{outside_more}
 use Rattle.history_core.proofs.byte_locks.ByteLocks.outside.Goals as goal
 

@@ -1,7 +1,5 @@
-use Rattle.std.proofs.Common.{◌≡◌, ◌↔◌, ℕ, take}
-use Rattle.range_core.specs.declared.Mode.{Mode}
+use Rattle.history_core.proofs.Common.{◌≡◌, ◌↔◌, ℕ, take, Mode, AreRanges, HasByte}
 use Rattle.range_core.specs.Ranges.{Covers}
-use Rattle.history_core.specs.ByteLists.{AreRanges, HasByte}
 use Rattle.history_core.proofs.byte_locks.ByteLocks.outside.Given as goal
 
 abbrev pub invariant-loop-lock : goal.invariant-loop-lock

@@ -1,4 +1,4 @@
-use Rattle.history_core.specs.ByteLists.{bytes_in}
+use Rattle.history_core.proofs.Common.{bytes_in}
 use Rattle.history_core.specs.Locks.{bytes_with}
 use Rattle.history_core.proofs.ByteLemmas.{AreTrue-given, bytes_in-is, with_gives}
 use Rattle.history_core.proofs.byte_locks.ByteLocks.with_range.Goals as goal

@@ -1,6 +1,4 @@
-use Rattle.std.proofs.Common.{List, sym, subst, ap, ◌∙◌}
-use Rattle.history_core.specs.declared.byte_locks.ByteLock.{ByteLock}
-use Rattle.history_core.specs.ByteLists.{AreTrue, bytes_in}
+use Rattle.history_core.proofs.Common.{List, sym, subst, ap, ◌∙◌, ByteLock, AreTrue, bytes_in}
 use Rattle.history_core.specs.Locks.{bytes_without}
 use Rattle.history_core.proofs.ByteLemmas.{AreTrue-given, bytes_in-is, without_gives, AreRanges-others}
 use Rattle.history_core.proofs.byte_locks.ByteLocks.without.Goals as goal

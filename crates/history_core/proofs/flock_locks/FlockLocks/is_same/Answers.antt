@@ -1,5 +1,4 @@
-use Rattle.std.proofs.Common.{ap}
-use Rattle.history_core.specs.ByteView.{bytes_of}
+use Rattle.history_core.proofs.Common.{ap, bytes_of}
 use Rattle.history_core.proofs.ByteLemmas.{same_by_first}
 use Rattle.history_core.proofs.flock_locks.FlockLocks.is_same.Goals as goal
 

@@ -1,4 +1,4 @@
-use Rattle.std.proofs.Common.{ap}
+use Rattle.history_core.proofs.Common.{ap}
 use Rattle.history_core.proofs.flock_locks.FlockLocks.new.Goals as goal
 
 pub invariant_of-result : goal.invariant_of-result

@@ -1,6 +1,6 @@
-use Rattle.std.proofs.Common.{ap, ◌∙◌, ◌==◌, if◌then◌else◌}
+use Rattle.history_core.proofs.Common.{ap, ◌∙◌, ◌==◌, bytes_of}
+use Rattle.std.proofs.Common.{if◌then◌else◌}
 use Rattle.std.proofs.Math.Bool.{and-true}
-use Rattle.history_core.specs.ByteView.{bytes_of}
 use Rattle.history_core.specs.FlockView.{flocks_of}
 use Rattle.history_core.proofs.ByteLemmas.{first_alone}
 use Rattle.history_core.proofs.flock_locks.FlockLocks.with.Goals as goal

@@ -1,4 +1,4 @@
-use Rattle.std.proofs.Common.{ap, ◌∙◌}
+use Rattle.history_core.proofs.Common.{ap, ◌∙◌}
 use Rattle.history_core.specs.HeldView.{flocks_in}
 use Rattle.history_core.proofs.HeldLemmas.{flocks_listed}
 use Rattle.history_core.proofs.held_locks.HeldLocks.flock_locks.Goals as goal

@@ -1,4 +1,4 @@
-use Rattle.std.proofs.Common.{◌∙◌, ◌-◌, ap, inl, refl}
+use Rattle.history_judge.proofs.Common.{◌∙◌, ◌-◌, ap, inl, refl}
 use Rattle.history_judge.proofs.FilesLemmas.{answer_keeps, answer_refuses, answer_stays, answer_takes, counted_rewritten, exceeds_entry, not_over, on_ok}
 use Rattle.history_judge.proofs.files.Files.answer.Goals as goal
 

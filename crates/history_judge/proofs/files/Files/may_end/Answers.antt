@@ -1,10 +1,6 @@
-use Rattle.std.proofs.Common.{rules, ◌≡◌, ◌∙◌, ◌-◌, ℕ, Some, ap, subst, true, false}
+use Rattle.history_judge.proofs.Common.{rules, ◌≡◌, ◌∙◌, ◌-◌, ℕ, Some, ap, subst, true, false, deref_pair, All, FileHistory, file_in}
 use Rattle.std.proofs.lemmas.List.Elements.{All-map, All-push}
 use Rattle.std.proofs.lemmas.Map.Iter.{iter_end}
-use Rattle.std.specs.Map.Iter.{deref_pair}
-use Rattle.std.specs.Prelude.{All}
-use Rattle.history_core.specs.declared.file.FileHistory.{FileHistory}
-use Rattle.history_judge.specs.FilesView.{file_in}
 use Rattle.history_judge.proofs.FilesLemmas.{MayEndBy, all_end, entry_in_loop, exceeds_entry, one_ends_not}
 use Rattle.history_judge.proofs.files.Files.may_end.Goals as goal
 

@@ -1,4 +1,5 @@
-use Rattle.std.specs.Prelude.{All, true}
+use Rattle.history_judge.proofs.Common.{All}
+use Rattle.std.specs.Prelude.{true}
 use Rattle.history_judge.proofs.FilesLemmas.{MayEndBy}
 use Rattle.history_judge.proofs.files.Files.may_end.Given as goal
 

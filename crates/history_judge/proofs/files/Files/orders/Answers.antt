@@ -1,13 +1,6 @@
-use Rattle.std.proofs.Common.{◌≡◌, ◌≢◌, ℕ, None, Some, subst, true}
+use Rattle.history_judge.proofs.Common.{◌≡◌, ◌≢◌, ℕ, None, Some, subst, true, get, deref_pair, nat_cmp, All, FileHistory, keeps_order, file_in}
 use Rattle.std.proofs.lemmas.List.Elements.{All-map, All-push}
 use Rattle.std.proofs.lemmas.Map.Iter.{iter_end}
-use Rattle.std.specs.BTreeMap.{get}
-use Rattle.std.specs.Map.Iter.{deref_pair}
-use Rattle.std.specs.Ordering.{nat_cmp}
-use Rattle.std.specs.Prelude.{All}
-use Rattle.history_core.specs.declared.file.FileHistory.{FileHistory}
-use Rattle.history_core.specs.FileView.{keeps_order}
-use Rattle.history_judge.specs.FilesView.{file_in}
 use Rattle.history_judge.proofs.FilesLemmas.{all_there, are_more, entry_in_loop, still_there}
 use Rattle.history_judge.proofs.files.Files.orders.Goals as goal
 

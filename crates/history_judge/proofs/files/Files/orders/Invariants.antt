@@ -1,8 +1,4 @@
-use Rattle.std.proofs.Common.{◌≡◌, ◌≢◌, true, None}
-use Rattle.std.specs.BTreeMap.{get}
-use Rattle.std.specs.Ordering.{nat_cmp}
-use Rattle.std.specs.Prelude.{All}
-use Rattle.history_core.specs.FileView.{keeps_order}
+use Rattle.history_judge.proofs.Common.{◌≡◌, ◌≢◌, true, None, get, nat_cmp, All, keeps_order}
 use Rattle.history_judge.specs.FileOrders.{AreOf}
 use Rattle.history_judge.proofs.files.Files.orders.Given as goal
 

@@ -1,4 +1,4 @@
-use Rattle.std.proofs.Common.{◌∙◌, inl, sym}
+use Rattle.history_judge.proofs.Common.{◌∙◌, inl, sym}
 use Rattle.history_judge.proofs.FilesLemmas.{none_found, not_over, on_ok, some_found}
 use Rattle.history_judge.proofs.files.Files.send.Goals as goal
 

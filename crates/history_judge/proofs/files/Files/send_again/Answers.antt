@@ -1,4 +1,4 @@
-use Rattle.std.proofs.Common.{◌∙◌, ◌-◌, ap, refl}
+use Rattle.history_judge.proofs.Common.{◌∙◌, ◌-◌, ap, refl}
 use Rattle.history_judge.proofs.FilesLemmas.{counted_rewritten, exceeds_entry, sent_stays, sent_takes}
 use Rattle.history_judge.proofs.files.Files.send_again.Goals as goal
 

@@ -1,4 +1,4 @@
-use Rattle.std.proofs.Common.{rules, ◌∙◌, refl, sym}
+use Rattle.history_judge.proofs.Common.{rules, ◌∙◌, refl, sym}
 use Rattle.history_core.specs.Moments.{Sent}
 use Rattle.history_judge.proofs.FilesLemmas.{counted_inserted, counted_same, exceeds_first, exceeds_full, fresh_free, on_err, puts_inserted, stays_same, takes_first}
 use Rattle.history_judge.proofs.files.Files.send_first.Goals as goal

@@ -1,7 +1,4 @@
-use Rattle.std.proofs.Common.{rules, ◌≡◌, ◌∙◌, Err, Some, true, false, ap, refl, sym}
-use Rattle.std.specs.BTreeMap.{get}
-use Rattle.std.specs.Ordering.{nat_cmp}
-use Rattle.history_judge.specs.Histories.{Answered}
+use Rattle.history_judge.proofs.Common.{rules, ◌≡◌, ◌∙◌, Err, Some, true, false, ap, refl, sym, get, nat_cmp, Answered}
 use Rattle.history_judge.proofs.FilesLemmas.{on_err}
 use Rattle.history_judge.proofs.JudgeLemmas.{entry_there, exceeds_there, file_answered, found_not, history_answer, history_still, known_answer, known_still, limit_of, logged_more, logged_still, never_impossible, never_taken, never_told, never_unknown, refused_answer, told_by_search}
 use Rattle.history_judge.proofs.judge.HistoryJudge.answer.Goals as goal

@@ -1,4 +1,4 @@
-use Rattle.std.proofs.Common.{rules, ◌≡◌, subst, true}
+use Rattle.history_judge.proofs.Common.{rules, ◌≡◌, subst, true}
 use Rattle.history_judge.specs.JudgeView.{keeps_order}
 use Rattle.history_judge.specs.FileOrders.{AreMerged}
 use Rattle.history_judge.proofs.OrderLemmas.{order_merged}

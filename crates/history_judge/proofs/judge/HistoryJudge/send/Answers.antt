@@ -1,7 +1,4 @@
-use Rattle.std.proofs.Common.{rules, ◌≡◌, ◌∙◌, Err, None, ap, refl, sym}
-use Rattle.std.specs.BTreeMap.{get}
-use Rattle.std.specs.Ordering.{nat_cmp}
-use Rattle.history_judge.specs.Histories.{Sent}
+use Rattle.history_judge.proofs.Common.{rules, ◌≡◌, ◌∙◌, Err, None, ap, refl, sym, get, nat_cmp, Sent}
 use Rattle.history_judge.proofs.FilesLemmas.{none_found, on_err, some_found}
 use Rattle.history_judge.proofs.JudgeLemmas.{exceeds_there, free_on, history_sent, history_still, known_sent, known_still, limit_of, logged_more, logged_still, never_impossible, never_taken, never_told, never_unknown, puts_back, same_entries}
 use Rattle.history_judge.proofs.judge.HistoryJudge.send.Goals as goal

@@ -1,7 +1,4 @@
-use Rattle.std.proofs.Common.{◌≡◌, ℕ, None, [], ap, refl}
-use Rattle.std.specs.BTreeMap.{get, is_at}
-use Rattle.std.specs.Map.{lookup}
-use Rattle.std.specs.Ordering.{nat_cmp}
+use Rattle.history_judge.proofs.Common.{◌≡◌, ℕ, None, [], ap, refl, get, is_at, lookup, nat_cmp}
 use Rattle.history_judge.proofs.JudgeLemmas.{known_first}
 use Rattle.history_judge.proofs.judge.HistoryJudge.with_files.Goals as goal
 

@@ -1,5 +1,4 @@
-use Rattle.std.proofs.Common.{◌∙◌, ◌+◌, ap}
-use Rattle.history_judge.specs.Merging.{beyond, left_in}
+use Rattle.history_judge.proofs.Common.{◌∙◌, ◌+◌, ap, beyond, left_in}
 use Rattle.history_judge.proofs.PassLemmas.{all_left}
 use Rattle.history_judge.proofs.order.FileOrder.pass_line.Goals as goal
 

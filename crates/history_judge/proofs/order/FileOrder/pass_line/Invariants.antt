@@ -1,5 +1,6 @@
-use Rattle.std.proofs.Common.{◌≡◌, ◌++◌, map, vec_len}
-use Rattle.history_judge.specs.Merging.{beyond, front, left_in, told_as}
+use Rattle.history_judge.proofs.Common.{◌≡◌, ◌++◌, map, beyond, front, left_in}
+use Rattle.std.proofs.Common.{vec_len}
+use Rattle.history_judge.specs.Merging.{told_as}
 use Rattle.history_judge.proofs.order.FileOrder.pass_line.Given as goal
 
 abbrev pub invariant-loop-happening : goal.invariant-loop-happening

@@ -1,8 +1,4 @@
-use Rattle.std.proofs.Common.{List, sym, ap, ◌∙◌}
-use Rattle.std.specs.List.{find}
-use Rattle.interval_index.specs.declared.Run.{Run}
-use Rattle.interval_index.specs.Contents.{RunContents}
-use Rattle.interval_index.specs.Tests.{beginning_by, blocks, reaches_lock}
+use Rattle.interval_index.proofs.Common.{List, sym, ap, ◌∙◌, find, Run, RunContents, beginning_by, blocks, reaches_lock}
 use Rattle.interval_index.proofs.Blocking.{first_within}
 use Rattle.interval_index.proofs.index.RunIndex.first.Goals as goal
 

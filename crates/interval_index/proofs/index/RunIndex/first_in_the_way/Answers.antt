@@ -1,14 +1,6 @@
-use Rattle.std.proofs.Common.{◌≡◌, true, false, Some, None, Option, List, [], refl, sym, ap, ◌∙◌, subst, arith}
-use Rattle.std.specs.List.{find}
-use Rattle.std.specs.Option.{IfNone, is_some}
-use Rattle.interval_index.specs.declared.Holder.{Holder}
-use Rattle.interval_index.specs.declared.Run.{Run}
-use Rattle.interval_index.specs.declared.queries.Reaching.{Reaching}
-use Rattle.interval_index.specs.Contents.{RunContents}
-use Rattle.interval_index.specs.Leasts.{IsLeastOf}
-use Rattle.interval_index.specs.Runs.{AreOrdered}
+use Rattle.interval_index.proofs.Common.{◌≡◌, true, false, Some, None, Option, List, [], refl, sym, ap, ◌∙◌, subst, arith, find, is_some, Holder, Run, Reaching, RunContents, IsLeastOf, AreOrdered, begins_after, blocks}
+use Rattle.std.specs.Option.{IfNone}
 use Rattle.interval_index.specs.Standing.{HolderConflict, IsFirstInTheWay}
-use Rattle.interval_index.specs.Tests.{begins_after, blocks}
 use Rattle.summary_tree.specs.Cuts.{before}
 use Rattle.interval_index.proofs.Blocking.{found_from_any}
 use Rattle.interval_index.proofs.InTheWay.{first_begins, least_is_first, never_none}

@@ -1,8 +1,4 @@
-use Rattle.std.proofs.Common.{List, sym, ap, ◌∙◌, subst}
-use Rattle.std.specs.Option.{is_some}
-use Rattle.interval_index.specs.declared.Run.{Run}
-use Rattle.interval_index.specs.Contents.{RunContents}
-use Rattle.interval_index.specs.Runs.{AreOrdered}
+use Rattle.interval_index.proofs.Common.{List, sym, ap, ◌∙◌, subst, is_some, Run, RunContents, AreOrdered}
 use Rattle.interval_index.proofs.Blocking.{any_from_found, found_from_any}
 use Rattle.interval_index.proofs.Standings.{conflict_from_run, run_from_conflict}
 use Rattle.interval_index.proofs.index.RunIndex.is_blocked.Goals as goal

@@ -1,10 +1,6 @@
-use Rattle.std.proofs.Common.{List, sym, ap, ◌∙◌, ◌&&◌, leb}
-use Rattle.std.specs.List.{find}
+use Rattle.interval_index.proofs.Common.{List, sym, ap, ◌∙◌, ◌&&◌, leb, find, Holder, Run, RunContents, beginning_by, blocks, reaches_lock}
 use Rattle.summary_tree.specs.Cuts.{both}
-use Rattle.interval_index.specs.declared.Holder.{Holder}
-use Rattle.interval_index.specs.declared.Run.{Run}
-use Rattle.interval_index.specs.Contents.{RunContents}
-use Rattle.interval_index.specs.Tests.{beginning_by, blocks, comes_behind, is_after, reaches_lock}
+use Rattle.interval_index.specs.Tests.{comes_behind, is_after}
 use Rattle.interval_index.proofs.Blocking.{first_within, regrouped}
 use Rattle.interval_index.proofs.Order.{cut_behind}
 use Rattle.interval_index.proofs.index.RunIndex.next.Goals as goal

@@ -1,10 +1,5 @@
-use Rattle.std.proofs.Common.{List, sym, ap, ◌∙◌, subst}
+use Rattle.interval_index.proofs.Common.{List, sym, ap, ◌∙◌, subst, Holder, Run, RunContents, AreOrdered, is_from}
 use Rattle.summary_tree.specs.Cuts.{put_before}
-use Rattle.interval_index.specs.declared.Holder.{Holder}
-use Rattle.interval_index.specs.declared.Run.{Run}
-use Rattle.interval_index.specs.Contents.{RunContents}
-use Rattle.interval_index.specs.Runs.{AreOrdered}
-use Rattle.interval_index.specs.Tests.{is_from}
 use Rattle.interval_index.proofs.Order.{NoneHas, cut_at, none_has, ordered_with}
 use Rattle.interval_index.proofs.index.RunIndex.put.Goals as goal
 

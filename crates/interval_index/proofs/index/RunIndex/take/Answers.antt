@@ -1,9 +1,5 @@
-use Rattle.std.proofs.Common.{List, sym, ap, ◌∙◌, subst}
-use Rattle.std.specs.List.{find}
-use Rattle.interval_index.specs.declared.Run.{Run}
-use Rattle.interval_index.specs.Contents.{RunContents}
-use Rattle.interval_index.specs.Runs.{AreOrdered}
-use Rattle.interval_index.specs.Tests.{has_key, is_from, without}
+use Rattle.interval_index.proofs.Common.{List, sym, ap, ◌∙◌, subst, find, Run, RunContents, AreOrdered, is_from}
+use Rattle.interval_index.specs.Tests.{has_key, without}
 use Rattle.interval_index.proofs.Order.{cut_at, it_is_there, none_found, none_left_out, nothing_there, ordered_without, other_there}
 use Rattle.interval_index.proofs.index.RunIndex.take.Goals as goal
 

@@ -1,4 +1,4 @@
-use Rattle.std.proofs.Common.{sym, ◌∙◌, arith}
+use Rattle.interval_index.proofs.Common.{sym, ◌∙◌, arith}
 use Rattle.interval_index.proofs.HolderLemmas.{another_option, same_option}
 use Rattle.interval_index.proofs.LeastJoins.{join_earlier, join_later, join_same}
 use Rattle.interval_index.proofs.least.Least.append.Goals as goal

@@ -1,4 +1,4 @@
-use Rattle.std.proofs.Common.{◌∙◌}
+use Rattle.interval_index.proofs.Common.{◌∙◌}
 use Rattle.interval_index.proofs.queries.ReachingQueryRunReaches.may_hit.Goals as goal
 
 pub returns : goal.returns

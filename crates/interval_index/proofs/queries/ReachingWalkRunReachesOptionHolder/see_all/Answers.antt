@@ -1,7 +1,4 @@
-use Rattle.std.proofs.Common.{◌≤◌, ◌++◌, Option, sym, ap, ◌∙◌, subst, arith}
-use Rattle.interval_index.specs.declared.Holder.{Holder}
-use Rattle.interval_index.specs.Holders.{has_by}
-use Rattle.interval_index.specs.Leasts.{IsLeastOf}
+use Rattle.interval_index.proofs.Common.{◌≤◌, ◌++◌, Option, sym, ap, ◌∙◌, subst, arith, Holder, has_by, IsLeastOf}
 use Rattle.interval_index.proofs.Leasts.{all_taken, no_lesser, passed_by}
 use Rattle.interval_index.proofs.queries.ReachingWalkRunReachesOptionHolder.see_all.Goals as goal
 

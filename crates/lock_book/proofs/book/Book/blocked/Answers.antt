@@ -1,8 +1,4 @@
-use Rattle.std.proofs.Common.{sym, subst}
-use Rattle.interval_index.specs.declared.Holder.{Holder}
-use Rattle.interval_index.specs.Standing.{HolderConflict}
-use Rattle.lock_book.specs.Books.{byte_modes_of, list_of}
-use Rattle.lock_book.specs.Indexing.{holder_modes}
+use Rattle.lock_book.proofs.Common.{sym, subst, Holder, HolderConflict, byte_modes_of, list_of, holder_modes}
 use Rattle.lock_book.proofs.IndexedLemmas.{conflict_from, conflict_on}
 use Rattle.lock_book.proofs.book.Book.blocked.Goals as goal
 

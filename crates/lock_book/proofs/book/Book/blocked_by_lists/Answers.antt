@@ -1,9 +1,5 @@
-use Rattle.std.proofs.Common.{◌∙◌, ◌≡◌, not, sym, true, false, refl}
-use Rattle.std.specs.Map.Iter.{deref_pair}
-use Rattle.std.proofs.lemmas.Bool.{not-true, not-false}
-use Rattle.std.proofs.lemmas.List.Elements.{All-push}
-use Rattle.std.proofs.lemmas.Map.Iter.{iter_end}
-use Rattle.lock_book.specs.Books.{byte_modes_of}
+use Rattle.lock_book.proofs.Common.{◌∙◌, ◌≡◌, not, sym, true, false, refl, deref_pair, not-true, All-push, iter_end, byte_modes_of}
+use Rattle.std.proofs.lemmas.Bool.{not-false}
 use Rattle.lock_book.proofs.OwnerLemmas.{owner_eq, same_from_eq, different_from_eq}
 use Rattle.lock_book.proofs.BlockLemmas.{NeverBlocks, conflict_from_hit, least_none, modes_in_loop, never_itself, never_without_hit, never_without_modes}
 use Rattle.lock_book.proofs.book.Book.blocked_by_lists.Goals as goal

@@ -1,5 +1,4 @@
-use Rattle.std.proofs.Common.{All}
-use Rattle.lock_book.specs.Books.{byte_modes_of}
+use Rattle.lock_book.proofs.Common.{All, byte_modes_of}
 use Rattle.lock_book.proofs.BlockLemmas.{NeverBlocks}
 use Rattle.lock_book.proofs.book.Book.blocked_by_lists.Given as goal
 

@@ -1,5 +1,4 @@
-use Rattle.std.proofs.Common.{arith, ◌≡◌, ◌∙◌, sym, true, refl, Some, None}
-use Rattle.std.proofs.lemmas.Grind.{common_steps}
+use Rattle.lock_book.proofs.Common.{arith, ◌≡◌, ◌∙◌, sym, true, refl, Some, None, common_steps}
 use Rattle.lock_book.proofs.BookLemmas.{list_of-not_lent, list_written, PutsAt-removes, PutsList-puts, ClearsOwner-puts, ClearsOwner-nothing}
 use Rattle.lock_book.proofs.KeptLemmas.{AreKept-list, AreKept-removed, AreKept-left, indexed_cleared}
 use Rattle.lock_book.proofs.book.Book.clear_owner.Goals as goal

@@ -1,6 +1,4 @@
-use Rattle.std.proofs.Common.{◌≡◌}
-use Rattle.range_core.specs.Changes.{modes_of}
-use Rattle.lock_book.specs.Books.{byte_modes_of}
+use Rattle.lock_book.proofs.Common.{◌≡◌, modes_of, byte_modes_of}
 use Rattle.lock_book.proofs.BookLemmas.{byte_modes_of-list, list_of-found}
 use Rattle.lock_book.proofs.book.Book.first_blocker.Goals as goal
 

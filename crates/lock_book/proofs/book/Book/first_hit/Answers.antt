@@ -1,8 +1,5 @@
-use Rattle.std.proofs.Common.{sym, subst}
-use Rattle.interval_index.specs.declared.Holder.{Holder}
-use Rattle.interval_index.specs.Standing.{HolderConflict, IsFirstInTheWay}
-use Rattle.lock_book.specs.Books.{byte_modes_of, list_of}
-use Rattle.lock_book.specs.Indexing.{as_holder, holder_modes}
+use Rattle.lock_book.proofs.Common.{sym, subst, Holder, HolderConflict, byte_modes_of, list_of, as_holder, holder_modes}
+use Rattle.interval_index.specs.Standing.{IsFirstInTheWay}
 use Rattle.lock_book.proofs.IndexedLemmas.{IfNone-anyhow, conflict_on, first_from}
 use Rattle.lock_book.proofs.book.Book.first_hit.Goals as goal
 

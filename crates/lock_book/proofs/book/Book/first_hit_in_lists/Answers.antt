@@ -1,7 +1,4 @@
-use Rattle.std.proofs.Common.{◌∙◌, ◌≡◌, sym, true, false}
-use Rattle.std.specs.Map.Iter.{deref_pair}
-use Rattle.std.proofs.lemmas.Map.Iter.{iter_end}
-use Rattle.lock_book.specs.Books.{byte_modes_of}
+use Rattle.lock_book.proofs.Common.{◌∙◌, ◌≡◌, sym, true, false, deref_pair, iter_end, byte_modes_of}
 use Rattle.lock_book.proofs.OwnerLemmas.{owner_eq, same_from_eq, different_from_eq}
 use Rattle.lock_book.proofs.BlockLemmas.{NeverBlocks, least_skip, least_replaces, least_stays, none_from_least, first_from_least, modes_in_loop, before_in_loop, never_itself, never_from_none, never_without_modes, first_at_start}
 use Rattle.lock_book.proofs.book.Book.first_hit_in_lists.Goals as goal

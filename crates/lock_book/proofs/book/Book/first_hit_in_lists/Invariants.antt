@@ -1,4 +1,4 @@
-use Rattle.lock_book.specs.Books.{byte_modes_of}
+use Rattle.lock_book.proofs.Common.{byte_modes_of}
 use Rattle.lock_book.proofs.BlockLemmas.{IsLeastSoFar}
 use Rattle.lock_book.proofs.book.Book.first_hit_in_lists.Given as goal
 

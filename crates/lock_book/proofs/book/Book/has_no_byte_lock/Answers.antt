@@ -1,6 +1,4 @@
-use Rattle.std.proofs.Common.{sym, ◌∙◌}
-use Rattle.std.proofs.lemmas.Bool.{eq-eqb, eqb-true}
-use Rattle.lock_book.specs.Books.{byte_modes_of, list_of}
+use Rattle.lock_book.proofs.Common.{sym, ◌∙◌, eq-eqb, eqb-true, byte_modes_of, list_of}
 use Rattle.lock_book.proofs.IndexedLemmas.{no_runs, none_without_runs}
 use Rattle.lock_book.proofs.book.Book.has_no_byte_lock.Goals as goal
 

@@ -1,6 +1,4 @@
-use Rattle.std.proofs.Common.{◌∙◌}
-use Rattle.std.specs.Map.Iter.{deref_pair}
-use Rattle.std.proofs.lemmas.Map.Iter.{iter_end}
+use Rattle.lock_book.proofs.Common.{◌∙◌, deref_pair, iter_end}
 use Rattle.lock_book.proofs.BlockLemmas.{modes_in_loop, before_in_loop}
 use Rattle.lock_book.proofs.HeldLemmas.{locks_of_more, all_byte_locks}
 use Rattle.lock_book.proofs.book.Book.held_bytes.Goals as goal

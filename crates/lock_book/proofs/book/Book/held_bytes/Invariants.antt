@@ -1,4 +1,4 @@
-use Rattle.lock_book.specs.Books.{byte_modes_of}
+use Rattle.lock_book.proofs.Common.{byte_modes_of}
 use Rattle.lock_book.proofs.HeldLemmas.{AreLocksOf}
 use Rattle.lock_book.proofs.book.Book.held_bytes.Given as goal
 

@@ -1,8 +1,4 @@
-use Rattle.std.proofs.Common.{ℕ, ◌∙◌, ap, Option}
-use Rattle.std.specs.Map.Iter.{deref_pair}
-use Rattle.std.proofs.lemmas.Map.Iter.{iter_end}
-use Rattle.std.specs.BTreeMap.{BTreeMap}
-use Rattle.range_core.specs.declared.Mode.{Mode}
+use Rattle.lock_book.proofs.Common.{ℕ, ◌∙◌, ap, Option, deref_pair, iter_end, BTreeMap, Mode}
 use Rattle.lock_book.proofs.FlockLemmas.{flock_mode_in_loop, earlier_flocks}
 use Rattle.lock_book.proofs.HeldLemmas.{flocks_of_more, flocks_of_empty, all_flock_locks}
 use Rattle.lock_book.proofs.book.Book.held_flocks.Goals as goal

@@ -1,4 +1,4 @@
-use Rattle.lock_book.specs.Books.{flock_modes_of}
+use Rattle.lock_book.proofs.Common.{flock_modes_of}
 use Rattle.lock_book.proofs.HeldLemmas.{AreFlocksOf}
 use Rattle.lock_book.proofs.book.Book.held_flocks.Given as goal
 

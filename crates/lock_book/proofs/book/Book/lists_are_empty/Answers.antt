@@ -1,10 +1,4 @@
-use Rattle.std.proofs.Common.{ℕ, ◌≡◌, sym, ◌∙◌, ap, true, false, refl, Option, None}
-use Rattle.std.specs.Map.Iter.{deref_pair}
-use Rattle.std.proofs.lemmas.List.Elements.{All-push}
-use Rattle.std.proofs.lemmas.Map.Iter.{iter_end}
-use Rattle.range_core.specs.declared.Mode.{Mode}
-use Rattle.range_core.specs.Changes.{modes_of}
-use Rattle.lock_book.specs.Books.{byte_modes_of}
+use Rattle.lock_book.proofs.Common.{ℕ, ◌≡◌, sym, ◌∙◌, ap, true, false, refl, Option, None, deref_pair, All-push, iter_end, Mode, modes_of, byte_modes_of}
 use Rattle.lock_book.proofs.BlockLemmas.{modes_in_loop, no_modes}
 use Rattle.lock_book.proofs.RunLemmas.{free_by_runs}
 use Rattle.lock_book.proofs.book.Book.lists_are_empty.Goals as goal

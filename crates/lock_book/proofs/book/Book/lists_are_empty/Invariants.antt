@@ -1,5 +1,4 @@
-use Rattle.std.proofs.Common.{ℕ, ◌≡◌, All, None}
-use Rattle.lock_book.specs.Books.{byte_modes_of}
+use Rattle.lock_book.proofs.Common.{ℕ, ◌≡◌, All, None, byte_modes_of}
 use Rattle.lock_book.proofs.book.Book.lists_are_empty.Given as goal
 
 abbrev pub invariant-loop-list : goal.invariant-loop-list

@@ -1,12 +1,9 @@
-use Rattle.std.proofs.Common.{◌≡◌, ◌∙◌, List, Option, true, All, ap, subst, sym}
-use Rattle.std.specs.Map.{lookup}
+use Rattle.lock_book.proofs.Common.{◌≡◌, ◌∙◌, List, Option, true, All, ap, subst, sym, lookup, RangeList, Owner, byte_modes_of, list_of, IsBefore, is_same_owner, AreRising, modes_in_list}
 use Rattle.std.proofs.lemmas.List.Elements.{filter_passes}
 use Rattle.std.proofs.lemmas.List.Kept.{AllPairs-filter}
-use Rattle.range_core.specs.declared.list.RangeList.{RangeList}
-use Rattle.lock_book.specs.declared.Owner.{Owner}
-use Rattle.lock_book.specs.Books.{byte_modes_of, list_of, room_in}
-use Rattle.lock_book.specs.Owners.{IsBefore, is_from, is_same_owner}
-use Rattle.lock_book.specs.OwnerLists.{AreRising, modes_in_list, room_in_list}
+use Rattle.lock_book.specs.Books.{room_in}
+use Rattle.lock_book.specs.Owners.{is_from}
+use Rattle.lock_book.specs.OwnerLists.{room_in_list}
 use Rattle.lock_book.proofs.OwnerListLemmas.{found_from, found_from_rising}
 use Rattle.lock_book.proofs.book.Book.lists_from.Goals as goal
 

@@ -1,9 +1,4 @@
-use Rattle.std.proofs.Common.{arith, ◌≡◌, ◌≢◌, not, true, sym}
-use Rattle.std.proofs.lemmas.Grind.{common_steps}
-use Rattle.std.proofs.lemmas.Bool.{not-true}
-use Rattle.range_core.specs.Changes.{modes_of}
-use Rattle.lock_book.specs.declared.Owner.TheVariants.{Process}
-use Rattle.lock_book.specs.Books.{byte_modes_of}
+use Rattle.lock_book.proofs.Common.{arith, ◌≡◌, ◌≢◌, not, true, sym, common_steps, not-true, modes_of, Process, byte_modes_of}
 use Rattle.lock_book.proofs.OwnerLemmas.{owner_eq, different_from_eq}
 use Rattle.lock_book.proofs.BookLemmas.{byte_modes_of-list, list_of-found, list_of-not_found}
 use Rattle.lock_book.proofs.BlockLemmas.{ProcessBlocks-hit, ProcessBlocks-none}

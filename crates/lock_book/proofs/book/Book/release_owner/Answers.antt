@@ -1,4 +1,4 @@
-use Rattle.std.proofs.Common.{refl, sym, ◌∙◌, None}
+use Rattle.lock_book.proofs.Common.{refl, sym, ◌∙◌, None}
 use Rattle.lock_book.proofs.BookLemmas.{PutsAt-puts, list_of-lookup}
 use Rattle.lock_book.proofs.KeptLemmas.{AreKept-removed, indexed_cleared, kept_same}
 use Rattle.lock_book.proofs.book.Book.release_owner.Goals as goal

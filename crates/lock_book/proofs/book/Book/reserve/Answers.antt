@@ -1,7 +1,5 @@
-use Rattle.std.proofs.lemmas.Grind.{common_steps}
-use Rattle.std.proofs.Common.{◌≡◌, ◌∙◌, refl, Some, None, arith}
+use Rattle.lock_book.proofs.Common.{common_steps, ◌≡◌, ◌∙◌, refl, Some, None, arith, list_of}
 use Rattle.std.proofs.lemmas.Result.{on_ok_weaker, on_err_weaker}
-use Rattle.lock_book.specs.Books.{list_of}
 use Rattle.lock_book.proofs.BookLemmas.{room_held, room_kept, list_of-lent, list_of-not_lent, list_written, PutsAt-adds, PutsList-puts, still_in_use, in_use_by_room, SameButRoom-puts, SameBook-puts, room_in-list}
 use Rattle.lock_book.proofs.KeptLemmas.{AreKept-insert, AreKept-left, AreKept-list, kept_same}
 use Rattle.lock_book.proofs.book.Book.reserve.Goals as goal

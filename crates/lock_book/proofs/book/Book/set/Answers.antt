@@ -1,15 +1,8 @@
-use Rattle.std.proofs.lemmas.Grind.{common_steps}
-use Rattle.std.proofs.Common.{◌≡◌, ◌∙◌, ap, sym, subst, true, refl, Some, None, Option, arith}
-use Rattle.std.specs.Prelude.{if◌then◌else◌}
-use Rattle.range_core.specs.declared.Mode.{Mode}
-use Rattle.range_core.specs.Changes.{is_covered, modes_of}
+use Rattle.lock_book.proofs.Common.{common_steps, ◌≡◌, ◌∙◌, ap, sym, subst, true, refl, Some, None, Option, arith, if◌then◌else◌, Mode, is_covered, modes_of, RangeList, modes_in_list, byte_modes_of}
 use Rattle.range_core.specs.Ranges.{SplitsRun}
 use Rattle.lock_book.proofs.BookLemmas.{room_kept, list_of-not_lent, list_written, PutsAt-adds, PutsAt-removes, PutsList-puts, SetsOwnerMode-puts, SetsOwnerMode-nothing, SameBook-puts, none_from_test, in_use_by_mode, still_in_use}
 use Rattle.lock_book.proofs.KeptLemmas.{AreKept-left, AreKept-list, AreKept-removed, indexed_added, indexed_set, found_added, indexed_again, PutsIn}
 use Rattle.std.proofs.lemmas.Bool.{false≢true}
-use Rattle.range_core.specs.declared.list.RangeList.{RangeList}
-use Rattle.lock_book.specs.OwnerLists.{modes_in_list}
-use Rattle.lock_book.specs.Books.{byte_modes_of}
 use Rattle.lock_book.proofs.book.Book.set.Goals as goal
 
 pub invariant_of-self : goal.invariant_of-self

@@ -1,5 +1,4 @@
-use Rattle.std.proofs.Common.{◌≡◌, ◌∙◌, sym, true, refl, Some, None, arith}
-use Rattle.lock_book.specs.Books.{list_of}
+use Rattle.lock_book.proofs.Common.{◌≡◌, ◌∙◌, sym, true, refl, Some, None, arith, list_of}
 use Rattle.lock_book.proofs.BookLemmas.{list_of-lent, list_written, PutsAt-removes, PutsList-puts, SetsOwnerMode-puts, room_in-list, room_left}
 use Rattle.lock_book.proofs.KeptLemmas.{AreKept-list, AreKept-removed, indexed_set}
 use Rattle.lock_book.proofs.book.Book.set_reserved.Goals as goal

@@ -1,4 +1,4 @@
-use Rattle.range_core.specs.Changes.{modes_of}
+use Rattle.lock_book.proofs.Common.{modes_of}
 use Rattle.lock_book.proofs.RunLemmas.{free_by_runs}
 use Rattle.lock_book.proofs.book.conflicts.has_no_lock.Goals as goal
 

@@ -1,7 +1,4 @@
-use Rattle.std.proofs.Common.{◌||◌, List, sym, subst, take}
-use Rattle.interval_index.specs.declared.Run.{Run}
-use Rattle.lock_book.specs.Indexing.{AreRunsWhere, as_holder, is_listed}
-use Rattle.std.proofs.lemmas.List.{take_all}
+use Rattle.lock_book.proofs.Common.{◌||◌, List, sym, subst, take, Run, AreRunsWhere, as_holder, is_listed, take_all}
 use Rattle.lock_book.proofs.IndexLemmas.{puts_all, puts_none, puts_step}
 use Rattle.lock_book.proofs.book.index.add_runs.Goals as goal
 

@@ -1,8 +1,4 @@
-use Rattle.std.proofs.Common.{◌∙◌, true, sym, subst, List}
-use Rattle.std.specs.Map.Iter.{deref_pair}
-use Rattle.std.proofs.lemmas.Map.Iter.{iter_end}
-use Rattle.interval_index.specs.declared.Run.{Run}
-use Rattle.lock_book.specs.Indexing.{AreRunsWhere, holder_modes, modes_among}
+use Rattle.lock_book.proofs.Common.{◌∙◌, true, sym, subst, List, deref_pair, iter_end, Run, AreRunsWhere, holder_modes, modes_among}
 use Rattle.lock_book.proofs.IndexedLemmas.{IsOfItems, all_indexed, each_held, kept_put, modes_of_next, more_indexed}
 use Rattle.lock_book.proofs.book.index.index_of.Goals as goal
 

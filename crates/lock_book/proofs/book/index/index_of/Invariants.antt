@@ -1,6 +1,5 @@
-use Rattle.std.specs.List.{list_any}
-use Rattle.interval_index.specs.Holders.{holder_of, is_same_holder}
-use Rattle.lock_book.specs.Indexing.{AreRunsWhere, as_holder, holder_modes, modes_among}
+use Rattle.lock_book.proofs.Common.{list_any, holder_of, AreRunsWhere, as_holder, holder_modes, modes_among}
+use Rattle.interval_index.specs.Holders.{is_same_holder}
 use Rattle.lock_book.proofs.book.index.index_of.Given as goal
 
 -- the runs of the owners so far are in

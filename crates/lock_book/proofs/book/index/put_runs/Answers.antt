@@ -1,5 +1,4 @@
-use Rattle.lock_book.specs.Indexing.{as_holder}
-use Rattle.std.proofs.lemmas.List.{take_all}
+use Rattle.lock_book.proofs.Common.{as_holder, take_all}
 use Rattle.lock_book.proofs.IndexLemmas.{puts_all, puts_none, puts_step}
 use Rattle.lock_book.proofs.book.index.put_runs.Goals as goal
 

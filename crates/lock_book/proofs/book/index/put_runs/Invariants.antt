@@ -1,8 +1,4 @@
-use Rattle.std.proofs.Common.{◌||◌, Bool, All, take}
-use Rattle.range_core.specs.Ranges.{IsRun}
-use Rattle.interval_index.specs.declared.Run.{Run}
-use Rattle.interval_index.specs.Standing.{HolderModes}
-use Rattle.lock_book.specs.Indexing.{AreRunsWhere, as_holder, is_listed}
+use Rattle.lock_book.proofs.Common.{◌||◌, Bool, All, take, IsRun, Run, HolderModes, AreRunsWhere, as_holder, is_listed}
 use Rattle.lock_book.proofs.book.index.put_runs.Given as goal
 
 -- the runs so far are put in

@@ -1,5 +1,4 @@
-use Rattle.lock_book.specs.Indexing.{as_holder}
-use Rattle.std.proofs.lemmas.List.{take_all}
+use Rattle.lock_book.proofs.Common.{as_holder, take_all}
 use Rattle.lock_book.proofs.IndexLemmas.{takes_all, takes_none, takes_step}
 use Rattle.lock_book.proofs.book.index.take_runs.Goals as goal
 

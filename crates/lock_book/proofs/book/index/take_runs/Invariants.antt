@@ -1,7 +1,4 @@
-use Rattle.std.proofs.Common.{◌&&◌, Bool, not, take}
-use Rattle.interval_index.specs.declared.Run.{Run}
-use Rattle.interval_index.specs.Standing.{HolderModes}
-use Rattle.lock_book.specs.Indexing.{AreRunsWhere, as_holder, is_listed}
+use Rattle.lock_book.proofs.Common.{◌&&◌, Bool, not, take, Run, HolderModes, AreRunsWhere, as_holder, is_listed}
 use Rattle.lock_book.proofs.book.index.take_runs.Given as goal
 
 -- the runs so far are taken out

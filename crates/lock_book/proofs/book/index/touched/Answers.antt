@@ -1,7 +1,6 @@
-use Rattle.std.proofs.Common.{◌+◌, ltb, leb, ltb-true, ltb-false, leb-true, leb-false, rules}
+use Rattle.lock_book.proofs.Common.{◌+◌, rules, Mode, Span}
+use Rattle.std.proofs.Common.{ltb, leb, ltb-true, ltb-false, leb-true, leb-false}
 use Rattle.std.proofs.lemmas.List.Sorted.{IsPartitionPoint-from_clause, IsPartitionedBy-leb, IsPartitionedBy-ltb}
-use Rattle.range_core.specs.declared.Mode.{Mode}
-use Rattle.range_core.specs.declared.Span.{Span}
 use Rattle.lock_book.proofs.TouchingLemmas.{are_touched, firsts_rise, lasts_rise}
 use Rattle.lock_book.proofs.book.index.touched.Goals as goal
 

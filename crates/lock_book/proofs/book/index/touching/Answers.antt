@@ -1,7 +1,4 @@
-use Rattle.range_core.specs.declared.Mode.{Mode}
-use Rattle.range_core.specs.declared.Span.{Span}
-use Rattle.range_core.specs.Ranges.{IsByteRange, IsRun}
-use Rattle.range_core.specs.Changes.{modes_of}
+use Rattle.lock_book.proofs.Common.{Mode, Span, IsByteRange, IsRun, modes_of}
 use Rattle.lock_book.proofs.TouchingLemmas.{all_between, all_touch, each_touching}
 use Rattle.lock_book.proofs.book.index.touching.Goals as goal
 

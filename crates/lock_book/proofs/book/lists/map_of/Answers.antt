@@ -1,9 +1,4 @@
-use Rattle.std.proofs.Common.{Box, Global, List, [], ◌∷◌, Some, sym, subst}
-use Rattle.std.specs.Box.{with_value}
-use Rattle.range_core.specs.declared.list.RangeList.{RangeList}
-use Rattle.lock_book.specs.declared.Owner.{Owner}
-use Rattle.lock_book.specs.OwnerLists.{PutsFor}
-use Rattle.lock_book.specs.Kept.{unboxed}
+use Rattle.lock_book.proofs.Common.{Box, Global, List, [], ◌∷◌, Some, sym, subst, with_value, RangeList, Owner, PutsFor, unboxed}
 use Rattle.lock_book.proofs.OwnerListLemmas.{written_in_block}
 use Rattle.lock_book.proofs.PutLemmas.{PutsFor-second, PutsFor-set, PutsFor-updates, still_there}
 use Rattle.lock_book.proofs.book.lists.map_of.Goals as goal

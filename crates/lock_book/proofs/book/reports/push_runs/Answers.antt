@@ -1,9 +1,5 @@
-use Rattle.std.proofs.Common.{arith, ◌++◌, ◌∙◌, ap, map, List}
-use Rattle.std.proofs.lemmas.Grind.{common_steps}
-use Rattle.std.proofs.lemmas.List.{map_more, take_all}
-use Rattle.range_core.specs.Changes.{modes_of}
-use Rattle.range_core.specs.declared.Mode.{Mode}
-use Rattle.range_core.specs.declared.Span.{Span}
+use Rattle.lock_book.proofs.Common.{arith, ◌++◌, ◌∙◌, ap, map, List, common_steps, take_all, modes_of, Mode, Span}
+use Rattle.std.proofs.lemmas.List.{map_more}
 use Rattle.lock_book.proofs.ListLemmas.{pushed}
 use Rattle.lock_book.proofs.RunLemmas.{run_line, lines_of_runs}
 use Rattle.lock_book.proofs.book.reports.push_runs.Goals as goal

@@ -1,4 +1,4 @@
-use Rattle.std.proofs.Common.{◌≡◌, ◌++◌, take, map}
+use Rattle.lock_book.proofs.Common.{◌≡◌, ◌++◌, take, map}
 use Rattle.lock_book.proofs.RunLemmas.{run_line}
 use Rattle.lock_book.proofs.book.reports.push_runs.Given as goal
 

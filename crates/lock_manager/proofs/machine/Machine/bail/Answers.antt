@@ -1,4 +1,4 @@
-use Rattle.std.proofs.Common.{[]}
+use Rattle.lock_manager.proofs.Common.{[]}
 use Rattle.lock_manager.proofs.machine.Machine.bail.Goals as goal
 
 pub returns-then-was_refused-clause-told : goal.returns-then-was_refused-clause-told

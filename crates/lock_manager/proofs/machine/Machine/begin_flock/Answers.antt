@@ -1,6 +1,4 @@
-use Rattle.std.proofs.Common.{◌<◌, ap, refl, length, arith, slice_set}
-use Rattle.std.proofs.lemmas.Result.{on_ok_weaker, on_err_weaker}
-use Rattle.lock_manager.specs.MachineView.{machine_locks, machine_state}
+use Rattle.lock_manager.proofs.Common.{◌<◌, ap, refl, length, arith, slice_set, on_ok_weaker, on_err_weaker, machine_locks, machine_state}
 use Rattle.lock_manager.proofs.kept.BookLemmas.{book_at}
 use Rattle.lock_manager.proofs.kept.ChangedFlockLemmas.{kept_by_first_flock, with_flock_change}
 use Rattle.lock_manager.proofs.kept.NextStateLemmas.{same_by_book}

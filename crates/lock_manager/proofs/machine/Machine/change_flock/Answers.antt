@@ -1,8 +1,6 @@
-use Rattle.std.proofs.Common.{◌≡◌, ◌<◌, sym, ap, subst, refl, length, true, arith, slice_get, slice_set}
+use Rattle.lock_manager.proofs.Common.{◌≡◌, ◌<◌, sym, ap, subst, refl, length, true, arith, slice_get, slice_set, has_place_at, machine_locks, machine_state, locks_of}
 use Rattle.lock_book.specs.Books.{SetsFlock}
-use Rattle.lock_manager.specs.WaitsKept.{FreesNobody, has_place_at}
-use Rattle.lock_manager.specs.MachineView.{machine_locks, machine_state}
-use Rattle.wait_core.specs.Locks.{locks_of}
+use Rattle.lock_manager.specs.WaitsKept.{FreesNobody}
 use Rattle.lock_manager.proofs.kept.WaitLemmas.{agree_elsewhere, places_kept}
 use Rattle.lock_manager.proofs.kept.BookLemmas.{book_at}
 use Rattle.lock_manager.proofs.kept.ChangedFlockLemmas.{flock_frees_none, kept_by_flock, flock_place_kept, with_flock_change}

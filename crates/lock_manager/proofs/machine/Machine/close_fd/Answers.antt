@@ -1,15 +1,9 @@
-use Rattle.std.proofs.Common.{arith, refl, rules}
-use Rattle.std.proofs.lemmas.Result.{on_err_weaker}
-use Rattle.std.proofs.lemmas.Grind.{common_steps}
-use Rattle.wait_core.specs.Locks.{locks_of}
-use Rattle.wait_core.specs.WaitsView.{waits_of}
+use Rattle.lock_manager.proofs.Common.{arith, refl, rules, on_err_weaker, common_steps, locks_of, waits_of, CloseFd, machine_state}
 use Rattle.lock_manager.specs.declared.request.Reply.TheVariants as replies
-use Rattle.lock_manager.specs.declared.request.Request.TheVariants.{CloseFd}
 use Rattle.lock_manager.proofs.calls.DescriptorCallLemmas.{done_by, refused_by, never_memory}
 use Rattle.lock_manager.proofs.kept.ClosingLemmas.{close_closes}
 use Rattle.lock_manager.proofs.kept.AfterCloseLemmas.{Closes, after_close, served_by_close, with_release}
 use Rattle.lock_manager.proofs.kept.StayOpenLemmas.{kept_by_refusal}
-use Rattle.lock_manager.specs.MachineView.{machine_state}
 use Rattle.lock_manager.proofs.kept.KeptLemmas.{kept_by_release}
 use Rattle.lock_manager.proofs.kept.WaitLemmas.{standing_in}
 use Rattle.lock_manager.proofs.machine.Machine.close_fd.Goals as goal

@@ -1,4 +1,4 @@
-use Rattle.std.proofs.Common.{[], ◌∷◌, ◌++◌, ◌∙◌, ap}
+use Rattle.lock_manager.proofs.Common.{[], ◌∷◌, ◌++◌, ◌∙◌, ap}
 use Rattle.lock_manager.specs.declared.request.Note.TheVariants.{Waits}
 use Rattle.lock_manager.proofs.calls.FlockCallLemmas.{converted, first_set}
 use Rattle.lock_manager.proofs.machine.Machine.convert_flock.Goals as goal

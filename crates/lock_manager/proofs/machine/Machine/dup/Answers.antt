@@ -1,11 +1,8 @@
-use Rattle.std.proofs.Common.{arith, refl}
-use Rattle.std.proofs.lemmas.Grind.{common_steps}
+use Rattle.lock_manager.proofs.Common.{arith, refl, common_steps, Dup, limits_of}
 use Rattle.lock_manager.proofs.kept.WaitLemmas.{standing_in}
 use Rattle.lock_manager.proofs.calls.DescriptorCallLemmas.{Dups, with_descriptors, served_by_dup, done_by, refused_by}
 use Rattle.lock_manager.proofs.kept.NextStateLemmas.{with_tables}
 use Rattle.lock_manager.specs.declared.request.Reply.TheVariants as replies
-use Rattle.lock_manager.specs.declared.request.Request.TheVariants.{Dup}
-use Rattle.fd_table.specs.TablesView.{limits_of}
 use Rattle.lock_manager.proofs.kept.StayOpenLemmas.{dupped_stays, kept_by_call}
 use Rattle.lock_manager.proofs.machine.Machine.dup.Goals as goal
 

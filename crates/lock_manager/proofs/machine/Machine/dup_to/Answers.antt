@@ -1,16 +1,9 @@
-use Rattle.std.proofs.Common.{arith, refl, rules}
-use Rattle.std.proofs.lemmas.Result.{on_err_weaker}
-use Rattle.std.proofs.lemmas.Grind.{common_steps}
-use Rattle.fd_table.specs.TablesView.{limits_of}
-use Rattle.wait_core.specs.Locks.{locks_of}
-use Rattle.wait_core.specs.WaitsView.{waits_of}
+use Rattle.lock_manager.proofs.Common.{arith, refl, rules, on_err_weaker, common_steps, limits_of, locks_of, waits_of, DupTo, machine_state}
 use Rattle.lock_manager.specs.declared.request.Reply.TheVariants as replies
-use Rattle.lock_manager.specs.declared.request.Request.TheVariants.{DupTo}
 use Rattle.lock_manager.proofs.calls.DescriptorCallLemmas.{done_by, refused_by, never_memory}
 use Rattle.lock_manager.proofs.kept.ClosingLemmas.{dup2_closes}
 use Rattle.lock_manager.proofs.kept.AfterCloseLemmas.{DupsTo, after_dup2, served_by_dup2, with_release}
 use Rattle.lock_manager.proofs.kept.StayOpenLemmas.{kept_by_refusal}
-use Rattle.lock_manager.specs.MachineView.{machine_state}
 use Rattle.lock_manager.proofs.kept.KeptLemmas.{kept_by_release}
 use Rattle.lock_manager.proofs.kept.WaitLemmas.{standing_in}
 use Rattle.lock_manager.proofs.machine.Machine.dup_to.Goals as goal

@@ -1,7 +1,4 @@
-use Rattle.std.proofs.lemmas.Grind.{common_steps}
-use Rattle.std.proofs.Common.{arith, rules}
-use Rattle.wait_core.specs.WaitsView.{waits_of}
-use Rattle.lock_manager.specs.MachineView.{machine_state}
+use Rattle.lock_manager.proofs.Common.{common_steps, arith, rules, waits_of, machine_state}
 use Rattle.lock_manager.proofs.kept.ClosingLemmas.{end_closes}
 use Rattle.lock_manager.proofs.kept.AfterCloseLemmas.{ended, standing_ended}
 use Rattle.lock_manager.proofs.kept.KeptLemmas.{kept_by_release}

@@ -1,4 +1,4 @@
-use Rattle.lock_book.specs.declared.Owner.TheVariants.{Description}
+use Rattle.lock_manager.proofs.Common.{Description}
 use Rattle.lock_manager.proofs.calls.CommandLemmas.{may_lock_waiting}
 use Rattle.lock_manager.proofs.calls.FlockCallLemmas.{asked, flock_locked, flock_placed}
 use Rattle.lock_manager.proofs.machine.Machine.first_flock.Goals as goal

@@ -1,4 +1,4 @@
-use Rattle.std.proofs.Common.{◌≡◌, Some, None, rules, MatchOption}
+use Rattle.lock_manager.proofs.Common.{◌≡◌, Some, None, rules, MatchOption}
 use Rattle.lock_manager.specs.declared.request.InTheWay.TheVariants as obstacles
 use Rattle.lock_manager.proofs.calls.AskingLemmas.{wait_in_the_way}
 use Rattle.lock_manager.proofs.machine.Machine.first_in_the_way.Goals as goal

@@ -1,6 +1,4 @@
-use Rattle.std.proofs.lemmas.Grind.{common_steps}
-use Rattle.std.proofs.Common.{◌<◌, length, arith}
-use Rattle.lock_manager.specs.MachineView.{machine_locks}
+use Rattle.lock_manager.proofs.Common.{common_steps, ◌<◌, length, arith, machine_locks}
 use Rattle.lock_manager.proofs.kept.BookLemmas.{book_at}
 use Rattle.lock_manager.proofs.calls.AskingLemmas.{first_of_bytes, first_of_flocks}
 use Rattle.lock_manager.proofs.machine.Machine.first_lock.Goals as goal

@@ -1,4 +1,4 @@
-use Rattle.std.proofs.Common.{◌∷◌, ◌++◌, [], ◌∙◌, ap}
+use Rattle.lock_manager.proofs.Common.{◌∷◌, ◌++◌, [], ◌∙◌, ap}
 use Rattle.std.specs.Option.{option_flatten}
 use Rattle.lock_manager.proofs.calls.FlockCallLemmas.{flock_tested}
 use Rattle.lock_manager.proofs.machine.Machine.flock_mode.Goals as goal

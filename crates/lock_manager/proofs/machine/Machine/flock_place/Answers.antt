@@ -1,6 +1,4 @@
-use Rattle.std.proofs.lemmas.Grind.{common_steps}
-use Rattle.std.proofs.Common.{arith}
-use Rattle.lock_manager.specs.MachineView.{machine_locks}
+use Rattle.lock_manager.proofs.Common.{common_steps, arith, machine_locks}
 use Rattle.lock_manager.proofs.kept.BookLemmas.{book_at}
 use Rattle.lock_manager.proofs.machine.Machine.flock_place.Goals as goal
 

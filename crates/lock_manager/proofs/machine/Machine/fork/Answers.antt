@@ -1,11 +1,6 @@
-use Rattle.std.proofs.lemmas.Grind.{common_steps}
-use Rattle.std.proofs.Common.{refl, arith}
+use Rattle.lock_manager.proofs.Common.{common_steps, refl, arith, locks_of, waits_of, Live, Fork}
 use Rattle.fd_table.specs.TablesView.{processes_of as processes_in}
-use Rattle.wait_core.specs.Locks.{locks_of}
-use Rattle.wait_core.specs.WaitsView.{waits_of}
-use Rattle.lock_manager.specs.declared.request.ProcState.TheVariants.{Live}
 use Rattle.lock_manager.specs.declared.request.Reply.TheVariants as replies
-use Rattle.lock_manager.specs.declared.request.Request.TheVariants.{Fork}
 use Rattle.lock_manager.proofs.kept.AfterCloseLemmas.{standing_forked}
 use Rattle.lock_manager.proofs.calls.DescriptorCallLemmas.{Forks, with_child_alive, served_by_fork, done_by, refused_by}
 use Rattle.lock_manager.proofs.kept.NextStateLemmas.{with_tables_and_process}

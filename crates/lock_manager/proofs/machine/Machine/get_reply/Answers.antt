@@ -1,7 +1,4 @@
-use Rattle.std.proofs.lemmas.Grind.{common_steps}
-use Rattle.std.proofs.Common.{◌≡◌, ◌<◌, length, arith}
-use Rattle.lock_book.specs.Books.{byte_modes_of}
-use Rattle.lock_manager.specs.MachineView.{machine_locks}
+use Rattle.lock_manager.proofs.Common.{common_steps, ◌≡◌, ◌<◌, length, arith, byte_modes_of, machine_locks}
 use Rattle.lock_manager.proofs.kept.BookLemmas.{book_at}
 use Rattle.lock_manager.proofs.calls.CommandLemmas.{tells_at, tells_blocker}
 use Rattle.lock_manager.proofs.machine.Machine.get_reply.Goals as goal

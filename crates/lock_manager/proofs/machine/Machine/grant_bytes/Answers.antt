@@ -1,15 +1,4 @@
-use Rattle.std.proofs.Common.{refl, ◌≡◌, ◌<◌, sym, ◌∙◌, ap, subst, length, Some, Ok, arith, true, slice_get, slice_set}
-use Rattle.std.proofs.lemmas.Option.{same_Some}
-use Rattle.lock_manager.specs.DescriptionLocks.{MayLock}
-use Rattle.lock_book.specs.Conflicts.{ByteConflict}
-use Rattle.wait_core.specs.Blocking.{IsBlockedIn}
-use Rattle.wait_core.specs.Locks.{locks_of}
-use Rattle.wait_core.specs.WaitsView.{waits_of}
-use Rattle.lock_manager.specs.State.{with_process}
-use Rattle.lock_manager.specs.ProcessCalls.{without_wait}
-use Rattle.lock_manager.specs.declared.request.ProcState.TheVariants.{Live}
-use Rattle.lock_manager.specs.WaitsKept.{AreApart, IsSuspended, HaveRoom, has_place_at}
-use Rattle.lock_manager.specs.MachineView.{machine_locks, machine_state, machine_waits, machine_rules, machine_processes}
+use Rattle.lock_manager.proofs.Common.{refl, ◌≡◌, ◌<◌, sym, ◌∙◌, ap, subst, length, Some, Ok, arith, true, slice_get, slice_set, same_Some, MayLock, ByteConflict, IsBlockedIn, locks_of, waits_of, with_process, without_wait, Live, AreApart, IsSuspended, HaveRoom, has_place_at, machine_locks, machine_state, machine_waits, machine_rules, machine_processes}
 use Rattle.lock_manager.proofs.kept.BookLemmas.{book_at}
 use Rattle.lock_manager.proofs.kept.GrantLemmas.{room_for_grant, room_granted, may_lock_granted, owner_granted, shows_granted}
 use Rattle.lock_manager.proofs.calls.ProcessCallLemmas.{found_holds}

@@ -1,10 +1,4 @@
-use Rattle.std.proofs.Common.{arith, ◌≡◌, ◌∙◌, sym, subst, true, slice_get}
-use Rattle.std.proofs.lemmas.Grind.{common_steps}
-use Rattle.wait_core.specs.WaitsView.{waits_of}
-use Rattle.lock_manager.specs.State.{state_numbered}
-use Rattle.lock_manager.specs.declared.request.ProcState.TheVariants.{Live}
-use Rattle.lock_manager.specs.WaitsKept.{AreApart, IsSuspended, has_place_at}
-use Rattle.lock_manager.specs.MachineView.{machine_state, machine_waits}
+use Rattle.lock_manager.proofs.Common.{arith, ◌≡◌, ◌∙◌, sym, subst, true, slice_get, common_steps, waits_of, state_numbered, Live, AreApart, IsSuspended, has_place_at, machine_state, machine_waits}
 use Rattle.lock_manager.proofs.kept.GrantLemmas.{may_lock_granted}
 use Rattle.lock_manager.proofs.calls.ProcessCallLemmas.{found_holds}
 use Rattle.lock_manager.proofs.calls.FlockCallLemmas.{found_asks, is_its_own_flock, shows_granted_flock}

@@ -1,5 +1,4 @@
-use Rattle.std.proofs.lemmas.Grind.{common_steps}
-use Rattle.std.proofs.Common.{◌≡◌, arith}
+use Rattle.lock_manager.proofs.Common.{common_steps, ◌≡◌, arith}
 use Rattle.lock_manager.proofs.kept.BookLemmas.{book_at}
 use Rattle.lock_manager.proofs.calls.ReportLemmas.{reports_more, held_in_state}
 use Rattle.lock_manager.proofs.machine.Machine.held.Goals as goal

@@ -1,5 +1,5 @@
 use Rattle.lock_book.specs.Reports.{AreFileReports}
-use Rattle.wait_core.specs.Locks.{locks_of}
+use Rattle.lock_manager.proofs.Common.{locks_of}
 use Rattle.lock_manager.proofs.machine.Machine.held.Given as goal
 
 abbrev pub invariant-loop-file : goal.invariant-loop-file

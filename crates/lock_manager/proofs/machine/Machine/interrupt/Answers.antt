@@ -1,9 +1,4 @@
-use Rattle.std.proofs.lemmas.Grind.{common_steps}
-use Rattle.std.proofs.Common.{refl, sym, subst, ◌∙◌, arith}
-use Rattle.wait_core.specs.WaitsView.{waits_of}
-use Rattle.lock_manager.specs.WaitsKept.{AreStanding}
-use Rattle.lock_manager.specs.declared.request.ProcState.TheVariants.{Live}
-use Rattle.lock_manager.specs.MachineView.{machine_state, machine_waits}
+use Rattle.lock_manager.proofs.Common.{common_steps, refl, sym, subst, ◌∙◌, arith, waits_of, AreStanding, Live, machine_state, machine_waits}
 use Rattle.lock_manager.proofs.kept.ProcessLemmas.{place_of_waiting, live_still, stands_set}
 use Rattle.lock_manager.proofs.calls.ProcessCallLemmas.{fewer_without, kept_by_leave, standing_left, with_wait_gone}
 use Rattle.lock_manager.proofs.machine.Machine.interrupt.Goals as goal

@@ -1,10 +1,4 @@
-use Rattle.std.proofs.lemmas.Grind.{common_steps}
-use Rattle.std.proofs.Common.{refl, sym, subst, arith}
-use Rattle.wait_core.specs.Locks.{locks_of}
-use Rattle.wait_core.specs.Settled.{AreBlockedElsewhere}
-use Rattle.wait_core.specs.WaitsView.{waits_of, AreTold}
-use Rattle.lock_manager.specs.MachineView.{machine_rules, machine_state, machine_locks, machine_waits}
-use Rattle.lock_manager.specs.WaitsKept.{AreStanding}
+use Rattle.lock_manager.proofs.Common.{common_steps, refl, sym, subst, arith, locks_of, AreBlockedElsewhere, waits_of, AreTold, machine_rules, machine_state, machine_locks, machine_waits, AreStanding}
 use Rattle.lock_manager.proofs.kept.ProcessLemmas.{place_of_live}
 use Rattle.lock_manager.proofs.kept.SuspendLemmas.{kept_by_join, standing_joined, with_wait, no_wait}
 use Rattle.lock_manager.proofs.kept.WaitLemmas.{waits_of_others}

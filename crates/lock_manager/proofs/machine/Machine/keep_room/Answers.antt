@@ -1,7 +1,4 @@
-use Rattle.std.proofs.lemmas.Grind.{common_steps}
-use Rattle.std.proofs.Common.{◌<◌, ◌∙◌, ap, refl, length, arith, slice_set}
-use Rattle.wait_core.specs.Locks.{locks_of}
-use Rattle.lock_manager.specs.MachineView.{machine_locks}
+use Rattle.lock_manager.proofs.Common.{common_steps, ◌<◌, ◌∙◌, ap, refl, length, arith, slice_set, locks_of, machine_locks}
 use Rattle.lock_manager.proofs.kept.BookLemmas.{book_at, locks_stay}
 use Rattle.lock_manager.proofs.kept.NextStateLemmas.{same_by_book}
 use Rattle.lock_manager.proofs.kept.SuspendLemmas.{kept_by_book, room_taken, roomy}

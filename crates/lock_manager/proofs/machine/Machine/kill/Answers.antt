@@ -1,15 +1,6 @@
-use Rattle.std.proofs.Common.{◌≡◌, List, sym, ap, subst, refl, ◌∙◌, [], ◌∷◌, ◌++◌, inl, inr}
-use Rattle.lock_manager.specs.declared.machine.Machine.{Machine}
+use Rattle.lock_manager.proofs.Common.{◌≡◌, List, sym, ap, subst, refl, ◌∙◌, [], ◌∷◌, ◌++◌, inl, inr, Machine, Kill, Note, Answer, Reply, Unborn, Live, Waiting, Ended, with_process, without_wait, Tells}
 use Rattle.lock_manager.specs.declared.request.Errno.TheVariants.{ESRCH}
-use Rattle.lock_manager.specs.declared.request.Request.TheVariants.{Kill}
-use Rattle.lock_manager.specs.declared.request.Note.{Note}
-use Rattle.lock_manager.specs.declared.request.Note.TheVariants.{Answer}
-use Rattle.lock_manager.specs.declared.request.Reply.{Reply}
 use Rattle.lock_manager.specs.declared.request.Reply.TheVariants as replies
-use Rattle.lock_manager.specs.declared.request.ProcState.TheVariants.{Unborn, Live, Waiting, Ended}
-use Rattle.lock_manager.specs.State.{with_process}
-use Rattle.lock_manager.specs.ProcessCalls.{without_wait}
-use Rattle.lock_manager.specs.MachineView.{Tells}
 use Rattle.lock_manager.proofs.calls.ProcessCallLemmas.{kills_itself, kills_other, ends_waiting}
 use Rattle.lock_manager.proofs.machine.Machine.kill.Goals as goal
 use Rattle.lock_manager.proofs.machine.Machine.kill.Goals.{in-Unborn, in-Live, in-Waiting}

@@ -1,5 +1,4 @@
-use Rattle.std.proofs.Common.{sym, ◌∙◌, ap, rules, FitsSigned, to_z, of_z, w64, to_z-of_z}
-use Rattle.range_core.specs.Resolving.{resolution}
+use Rattle.lock_manager.proofs.Common.{sym, ◌∙◌, ap, rules, FitsSigned, to_z, of_z, w64, to_z-of_z, resolution}
 use Rattle.lock_manager.proofs.calls.CommandLemmas.{on_range, may_wait_looked}
 use Rattle.lock_manager.proofs.machine.Machine.lock_command.Goals as goal
 

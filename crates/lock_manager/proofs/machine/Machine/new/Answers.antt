@@ -1,9 +1,4 @@
-use Rattle.std.proofs.lemmas.Grind.{common_steps}
-use Rattle.std.proofs.Common.{sym, subst, arith}
-use Rattle.wait_core.specs.Locks.{locks_of}
-use Rattle.wait_core.specs.Cycles.{IsFreeOfCycles}
-use Rattle.wait_core.specs.WaitsView.{waits_of}
-use Rattle.lock_manager.specs.WaitsKept.{AreApart, HaveRoom}
+use Rattle.lock_manager.proofs.Common.{common_steps, sym, subst, arith, locks_of, IsFreeOfCycles, waits_of, AreApart, HaveRoom}
 use Rattle.lock_manager.proofs.kept.WaitLemmas.{room_for_none}
 use Rattle.lock_manager.proofs.kept.BookLemmas.{unlocked_bytes}
 use Rattle.lock_manager.proofs.kept.OwnedLemmas.{owned_at_opening, of_no_wait}

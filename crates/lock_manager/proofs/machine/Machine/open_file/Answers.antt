@@ -1,11 +1,8 @@
-use Rattle.std.proofs.Common.{arith, refl}
-use Rattle.std.proofs.lemmas.Grind.{common_steps}
+use Rattle.lock_manager.proofs.Common.{arith, refl, common_steps, OpenFile, limits_of}
 use Rattle.lock_manager.proofs.calls.DescriptorCallLemmas.{Opens, with_descriptors, served_by_open, done_by, refused_by}
 use Rattle.lock_manager.proofs.kept.NextStateLemmas.{with_tables}
 use Rattle.lock_manager.specs.declared.request.Reply.TheVariants as replies
-use Rattle.lock_manager.specs.declared.request.Request.TheVariants.{OpenFile}
 use Rattle.lock_manager.proofs.kept.WaitLemmas.{standing_in}
-use Rattle.fd_table.specs.TablesView.{limits_of}
 use Rattle.lock_manager.proofs.kept.StayOpenLemmas.{opened_stays, kept_by_call}
 use Rattle.lock_manager.proofs.machine.Machine.open_file.Goals as goal
 

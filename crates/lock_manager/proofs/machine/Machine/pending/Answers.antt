@@ -1,6 +1,4 @@
-use Rattle.std.proofs.lemmas.Grind.{common_steps}
-use Rattle.std.proofs.Common.{arith}
-use Rattle.lock_manager.specs.MachineView.{machine_processes, machine_state, machine_waits}
+use Rattle.lock_manager.proofs.Common.{common_steps, arith, machine_processes, machine_state, machine_waits}
 use Rattle.lock_manager.proofs.kept.ProcessLemmas.{place_of_live}
 use Rattle.lock_manager.proofs.kept.SuspendLemmas.{no_wait, some_of}
 use Rattle.lock_manager.proofs.kept.WaitLemmas.{waits_of_others}

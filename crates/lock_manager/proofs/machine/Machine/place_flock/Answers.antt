@@ -1,5 +1,4 @@
-use Rattle.std.proofs.Common.{◌<◌, ap, refl, length, arith, slice_set}
-use Rattle.std.proofs.lemmas.Result.{on_ok_weaker}
+use Rattle.lock_manager.proofs.Common.{◌<◌, ap, refl, length, arith, slice_set, on_ok_weaker}
 use Rattle.lock_manager.proofs.kept.BookLemmas.{book_at}
 use Rattle.lock_manager.proofs.kept.ChangedFlockLemmas.{place_taken, placed}
 use Rattle.lock_manager.proofs.kept.NextStateLemmas.{same_by_book}

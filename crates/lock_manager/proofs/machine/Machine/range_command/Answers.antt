@@ -1,6 +1,4 @@
-use Rattle.std.proofs.lemmas.Grind.{common_steps}
-use Rattle.std.proofs.Common.{sym, ◌∙◌, arith}
-use Rattle.lock_manager.specs.MachineView.{machine_processes, machine_state}
+use Rattle.lock_manager.proofs.Common.{common_steps, sym, ◌∙◌, arith, machine_processes, machine_state}
 use Rattle.lock_manager.proofs.calls.CommandLemmas.{asked}
 use Rattle.lock_manager.proofs.kept.ProcessLemmas.{place_of_live}
 use Rattle.lock_manager.proofs.machine.Machine.range_command.Goals as goal

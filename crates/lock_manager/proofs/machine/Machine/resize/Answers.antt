@@ -1,9 +1,6 @@
-use Rattle.std.proofs.Common.{arith, refl, subst, Ok, Err, rules, FitsSigned, to_z, of_z, w64, to_z-of_z}
-use Rattle.std.proofs.lemmas.Grind.{common_steps}
+use Rattle.lock_manager.proofs.Common.{arith, refl, subst, Ok, Err, rules, FitsSigned, to_z, of_z, w64, to_z-of_z, common_steps, ResizeGives, Resize}
 use Rattle.lock_manager.proofs.kept.WaitLemmas.{standing_in}
-use Rattle.fd_table.specs.Calls.{ResizeGives}
 use Rattle.lock_manager.specs.declared.request.Reply.TheVariants as replies
-use Rattle.lock_manager.specs.declared.request.Request.TheVariants.{Resize}
 use Rattle.lock_manager.proofs.calls.DescriptorCallLemmas.{Gave, with_descriptors, done_by, refused_by}
 use Rattle.lock_manager.proofs.kept.NextStateLemmas.{with_tables}
 use Rattle.lock_manager.proofs.kept.StayOpenLemmas.{resized_stays, kept_by_call}

@@ -1,9 +1,5 @@
-use Rattle.std.proofs.Common.{[], sym, subst, refl}
+use Rattle.lock_manager.proofs.Common.{[], sym, subst, refl, AllBlocked, locks_of, waits_of, machine_locks, machine_rules, machine_waits}
 use Rattle.lock_manager.proofs.kept.NextStateLemmas.{with_tables}
-use Rattle.wait_core.specs.Blocking.{AllBlocked}
-use Rattle.wait_core.specs.Locks.{locks_of}
-use Rattle.wait_core.specs.WaitsView.{waits_of}
-use Rattle.lock_manager.specs.MachineView.{machine_locks, machine_rules, machine_waits}
 use Rattle.lock_manager.proofs.calls.SettleLemmas.{kept_at_rest}
 use Rattle.lock_manager.proofs.machine.Machine.rest.Goals as goal
 

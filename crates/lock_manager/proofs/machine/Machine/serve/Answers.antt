@@ -1,5 +1,4 @@
-use Rattle.std.proofs.Common.{arith, [], to_z-of_z}
-use Rattle.std.proofs.lemmas.Grind.{common_steps}
+use Rattle.lock_manager.proofs.Common.{arith, [], to_z-of_z, common_steps}
 use Rattle.lock_manager.proofs.calls.ReplyLemmas.{told_by}
 use Rattle.lock_manager.proofs.machine.Machine.serve.Goals as goal
 

@@ -1,5 +1,4 @@
-use Rattle.std.proofs.Common.{arith, sym, ◌∙◌}
-use Rattle.std.proofs.lemmas.Grind.{common_steps}
+use Rattle.lock_manager.proofs.Common.{arith, sym, ◌∙◌, common_steps}
 use Rattle.lock_manager.proofs.calls.CommandLemmas.{may_lock_waiting}
 use Rattle.lock_manager.proofs.calls.SetLemmas.{is_blocked, locked, deadlocked, waiting}
 use Rattle.lock_manager.proofs.machine.Machine.set_command.Goals as goal

@@ -1,6 +1,4 @@
-use Rattle.std.proofs.lemmas.Grind.{common_steps}
-use Rattle.std.proofs.Common.{[], ◌∷◌, ◌++◌, ◌≡◌, ◌∙◌, ap, append-nil, arith, length, length-append, append_assoc}
-use Rattle.lock_manager.specs.declared.request.Note.TheVariants.{Answer}
+use Rattle.lock_manager.proofs.Common.{common_steps, [], ◌∷◌, ◌++◌, ◌≡◌, ◌∙◌, ap, append-nil, arith, length, length-append, append_assoc, Answer}
 use Rattle.lock_manager.specs.declared.request.Reply.TheVariants as replies
 use Rattle.lock_manager.proofs.calls.SettleLemmas.{leads_nowhere, next_is_free, leads_on, settled_here}
 use Rattle.lock_manager.proofs.machine.Machine.settle.Goals as goal

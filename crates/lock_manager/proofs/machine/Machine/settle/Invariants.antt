@@ -1,6 +1,6 @@
-use Rattle.std.proofs.Common.{◌≡◌, ◌+◌, ◌≤◌, ◌++◌, List, length, vec_capacity}
-use Rattle.lock_manager.specs.declared.request.Note.{Note}
-use Rattle.lock_manager.specs.MachineView.{StayLive, KeepPlaces, machine_rules, machine_processes, machine_waits}
+use Rattle.lock_manager.proofs.Common.{◌≡◌, ◌+◌, ◌≤◌, ◌++◌, List, length, Note, machine_rules, machine_processes, machine_waits}
+use Rattle.std.proofs.Common.{vec_capacity}
+use Rattle.lock_manager.specs.MachineView.{StayLive, KeepPlaces}
 use Rattle.lock_manager.proofs.calls.SettleLemmas.{LeadsOn}
 use Rattle.lock_manager.proofs.machine.Machine.settle.Given as goal
 

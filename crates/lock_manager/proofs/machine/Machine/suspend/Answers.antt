@@ -1,6 +1,4 @@
-use Rattle.std.proofs.lemmas.Grind.{common_steps}
-use Rattle.std.proofs.Common.{arith}
-use Rattle.lock_manager.specs.MachineView.{machine_waits}
+use Rattle.lock_manager.proofs.Common.{common_steps, arith, machine_waits}
 use Rattle.lock_manager.proofs.kept.SuspendLemmas.{room_joined}
 use Rattle.lock_manager.proofs.machine.Machine.suspend.Goals as goal
 

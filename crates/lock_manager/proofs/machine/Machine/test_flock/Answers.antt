@@ -1,10 +1,6 @@
-use Rattle.std.proofs.lemmas.Grind.{common_steps}
-use Rattle.std.proofs.Common.{◌≡◌, ◌∙◌, sym, ap, arith}
-use Rattle.wait_core.specs.declared.Wait.{Wait}
+use Rattle.lock_manager.proofs.Common.{common_steps, ◌≡◌, ◌∙◌, sym, ap, arith, Wait, machine_processes, machine_state, machine_waits, Process, Description}
 use Rattle.lock_manager.proofs.kept.ChangedFlockLemmas.{room_joined_flock, well_formed_flock}
 use Rattle.lock_manager.proofs.kept.ProcessLemmas.{place_of_live}
-use Rattle.lock_manager.specs.MachineView.{machine_processes, machine_state, machine_waits}
-use Rattle.lock_book.specs.declared.Owner.TheVariants.{Process, Description}
 use Rattle.lock_manager.proofs.calls.CommandLemmas.{may_lock_waiting}
 use Rattle.lock_manager.proofs.calls.SetLemmas.{is_blocked}
 use Rattle.lock_manager.proofs.calls.FlockCallLemmas.{asked, flock_locked, flock_held_off, flock_waiting}

@@ -1,4 +1,4 @@
-use Rattle.lock_manager.specs.MachineView.{machine_state}
+use Rattle.lock_manager.proofs.Common.{machine_state}
 use Rattle.lock_manager.proofs.kept.WaitLemmas.{those_waiting}
 use Rattle.lock_manager.proofs.machine.Machine.waiting.Goals as goal
 

@@ -1,5 +1,4 @@
-use Rattle.std.proofs.Common.{ℕ, ◌<◌, get_or}
-use Rattle.wait_core.specs.declared.Wait.{Wait}
+use Rattle.lock_manager.proofs.Common.{ℕ, ◌<◌, get_or, Wait}
 use Rattle.wait_core.specs.Blocking.{WaitsConflict}
 use Rattle.lock_manager.proofs.machine.asking.first_conflicting.Given as goal
 

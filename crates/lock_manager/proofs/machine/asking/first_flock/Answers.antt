@@ -1,5 +1,4 @@
-use Rattle.std.proofs.Common.{arith}
-use Rattle.std.proofs.lemmas.Grind.{common_steps}
+use Rattle.lock_manager.proofs.Common.{arith, common_steps}
 use Rattle.lock_manager.proofs.calls.AskingLemmas.{first_at}
 use Rattle.lock_manager.proofs.machine.asking.first_flock.Goals as goal
 

@@ -1,5 +1,4 @@
-use Rattle.std.proofs.Common.{ℕ, ◌<◌, get_or}
-use Rattle.lock_book.specs.declared.Held.{Held}
+use Rattle.lock_manager.proofs.Common.{ℕ, ◌<◌, get_or, Held}
 use Rattle.lock_manager.specs.Asking.{IsFlockAgainst}
 use Rattle.lock_manager.proofs.machine.asking.first_flock.Given as goal
 

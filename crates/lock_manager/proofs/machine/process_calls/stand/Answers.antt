@@ -1,4 +1,4 @@
-use Rattle.std.proofs.Common.{◌-◌, arith}
+use Rattle.lock_manager.proofs.Common.{◌-◌, arith}
 use Rattle.lock_manager.proofs.kept.ProcessLemmas.{state_numbered-set}
 use Rattle.lock_manager.proofs.machine.process_calls.stand.Goals as goal
 

@@ -1,6 +1,4 @@
-use Rattle.std.proofs.Common.{arith}
-use Rattle.std.proofs.lemmas.Grind.{common_steps}
-use Rattle.lock_manager.specs.State.{opening_state}
+use Rattle.lock_manager.proofs.Common.{arith, common_steps, opening_state}
 use Rattle.lock_manager.proofs.calls.ManagerLemmas.{safe_machine, stands_for, opening_says}
 use Rattle.lock_manager.proofs.manager.Manager.new.Goals as goal
 

@@ -1,7 +1,4 @@
-use Rattle.std.proofs.Common.{arith, ◌∙◌, ap, sym, length, List}
-use Rattle.lock_manager.specs.declared.request.ProcState.{ProcState}
-use Rattle.lock_manager.specs.MachineView.{machine_processes, machine_state}
-use Rattle.lock_manager.specs.ManagerView.{state_at}
+use Rattle.lock_manager.proofs.Common.{arith, ◌∙◌, ap, sym, length, List, ProcState, machine_processes, machine_state, state_at}
 use Rattle.lock_manager.proofs.calls.ManagerLemmas.{one_step, are_marked, safe_machine}
 use Rattle.lock_manager.proofs.kept.ProcessLemmas.{place_of_live}
 use Rattle.lock_manager.proofs.manager.Manager.take_into.Goals as goal

@@ -1,4 +1,4 @@
-use Rattle.std.proofs.Common.{arith, ◌∙◌}
+use Rattle.lock_manager.proofs.Common.{arith, ◌∙◌}
 use Rattle.lock_manager.proofs.SectionLemmas.{heard_next}
 use Rattle.lock_manager.proofs.sections.Sections.hear.Goals as goal
 

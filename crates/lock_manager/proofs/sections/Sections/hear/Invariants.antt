@@ -1,6 +1,5 @@
-use Rattle.std.proofs.Common.{◌≡◌, ◌≤◌, ℕ, take, vec_len}
+use Rattle.lock_manager.proofs.Common.{◌≡◌, ◌≤◌, ℕ, take, vec_len, visit_in, refused_in}
 use Rattle.lock_manager.specs.Sections.{last_refused}
-use Rattle.lock_manager.specs.SectionsView.{visit_in, refused_in}
 use Rattle.lock_manager.proofs.sections.Sections.hear.Given as goal
 
 -- the answers so far are the last ones to their processes

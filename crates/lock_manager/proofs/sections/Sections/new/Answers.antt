@@ -1,7 +1,5 @@
-use Rattle.std.proofs.Common.{◌≡◌, ◌∙◌, ap, subst, sym, suc, zero, refl, replicate, get_or, List}
-use Rattle.lock_manager.specs.declared.seat.Seat.{Seat}
-use Rattle.lock_manager.specs.SeatView.{no_seat}
-use Rattle.lock_manager.specs.SectionsView.{seat_in}
+use Rattle.lock_manager.proofs.Common.{◌≡◌, ◌∙◌, ap, subst, sym, suc, zero, refl, get_or, List, Seat, no_seat, seat_in}
+use Rattle.std.proofs.Common.{replicate}
 use Rattle.lock_manager.proofs.SectionLemmas.{seats_none}
 use Rattle.lock_manager.proofs.sections.Sections.new.Goals as goal
 

@@ -1,6 +1,5 @@
-use Rattle.std.proofs.Common.{arith, ◌∙◌, ◌+◌, sym, refl}
+use Rattle.lock_manager.proofs.Common.{arith, ◌∙◌, ◌+◌, sym, refl, no_seat}
 use Rattle.std.proofs.lemmas.List.{get_or_default}
-use Rattle.lock_manager.specs.SeatView.{no_seat}
 use Rattle.lock_manager.proofs.SectionLemmas.{seat_at}
 use Rattle.lock_manager.proofs.sections.Sections.seat_at.Goals as goal
 

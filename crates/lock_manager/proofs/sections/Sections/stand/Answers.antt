@@ -1,9 +1,5 @@
-use Rattle.std.proofs.Common.{arith, ◌≡◌, ◌∙◌, true, false, None, not, if◌then◌else◌, ap, sym, refl}
-use Rattle.lock_manager.specs.declared.request.ProcState.{ProcState}
-use Rattle.lock_manager.specs.declared.seat.Seat.{Seat}
-use Rattle.lock_manager.specs.State.{state_numbered}
+use Rattle.lock_manager.proofs.Common.{arith, ◌≡◌, ◌∙◌, true, false, None, not, if◌then◌else◌, ap, sym, refl, ProcState, Seat, state_numbered, seat_in, visit_in, refused_in}
 use Rattle.lock_manager.specs.Sections.{has_ended, is_live}
-use Rattle.lock_manager.specs.SectionsView.{seat_in, visit_in, refused_in}
 use Rattle.lock_manager.proofs.SectionLemmas.{stand_none, stand_next, stand_all, unborn_past, seat_past, state_here, gone_and}
 use Rattle.lock_manager.proofs.sections.Sections.stand.Goals as goal
 

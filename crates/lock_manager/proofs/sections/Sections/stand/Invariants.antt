@@ -1,7 +1,5 @@
-use Rattle.std.proofs.Common.{◌≡◌, ℕ, nat_le, not, if◌then◌else◌, false, None, vec_len}
-use Rattle.lock_manager.specs.State.{state_numbered}
+use Rattle.lock_manager.proofs.Common.{◌≡◌, ℕ, nat_le, not, if◌then◌else◌, false, None, vec_len, state_numbered, visit_in, refused_in}
 use Rattle.lock_manager.specs.Sections.{has_ended, is_live}
-use Rattle.lock_manager.specs.SectionsView.{visit_in, refused_in}
 use Rattle.lock_manager.proofs.sections.Sections.stand.Given as goal
 
 -- the processes up to here are marked, and the others are as they were

@@ -1,4 +1,4 @@
-use Rattle.lock_server.specs.Settling.{PendingsConflict}
+use Rattle.lock_server.proofs.Common.{PendingsConflict}
 use Rattle.lock_server.proofs.AskingLemmas.{conflicting_test, same_test}
 use Rattle.lock_server.proofs.asking.ConflictingQueryPendingHull.hits.Goals as goal
 

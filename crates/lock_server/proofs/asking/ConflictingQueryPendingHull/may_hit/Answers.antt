@@ -1,7 +1,4 @@
-use Rattle.std.proofs.Common.{subst, sym}
-use Rattle.lock_server.specs.declared.freed.Reach.{Reach}
-use Rattle.lock_server.specs.Asking.{are_conflicting}
-use Rattle.lock_server.specs.Freed.{Reaches}
+use Rattle.lock_server.proofs.Common.{subst, sym, Reach, are_conflicting, Reaches}
 use Rattle.lock_server.proofs.AskingLemmas.{conflicts_there, none_hits}
 use Rattle.lock_server.proofs.asking.ConflictingQueryPendingHull.may_hit.Goals as goal
 

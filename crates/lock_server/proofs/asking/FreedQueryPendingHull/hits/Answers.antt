@@ -1,4 +1,4 @@
-use Rattle.lock_server.specs.Freed.{IsAmong}
+use Rattle.lock_server.proofs.Common.{IsAmong}
 use Rattle.lock_server.proofs.AskingLemmas.{among_test, same_test}
 use Rattle.lock_server.proofs.asking.FreedQueryPendingHull.hits.Goals as goal
 

@@ -1,9 +1,4 @@
-use Rattle.std.proofs.Common.{◌≡◌, ◌==◌, sym, subst, true, false, arith}
-use Rattle.std.specs.List.{list_any}
-use Rattle.std.proofs.lemmas.Bool.{eqb-true}
-use Rattle.lock_server.specs.declared.freed.Freed.{Freed}
-use Rattle.lock_server.specs.declared.freed.Freed.TheVariants.{Nobody, Of, Meeting}
-use Rattle.lock_server.specs.Asking.{is_among, reaches}
+use Rattle.lock_server.proofs.Common.{◌≡◌, ◌==◌, sym, subst, true, false, arith, list_any, eqb-true, Freed, Nobody, Of, Meeting, is_among, reaches}
 use Rattle.lock_server.proofs.AskingLemmas.{both, none_hits, reaches_told}
 use Rattle.lock_server.proofs.asking.FreedQueryPendingHull.may_hit.Goals as goal
 

@@ -1,11 +1,5 @@
-use Rattle.std.proofs.Common.{◌≡◌, ◌==◌, sym, subst, false, arith}
-use Rattle.std.specs.List.{list_any}
-use Rattle.std.proofs.lemmas.Bool.{eqb-true}
-use Rattle.std.proofs.lemmas.Bool.Decides.{nat_tests}
+use Rattle.lock_server.proofs.Common.{◌≡◌, ◌==◌, sym, subst, false, arith, list_any, eqb-true, nat_tests, is_within, is_leaving, is_byte_wait, is_of_bytes}
 use Rattle.lock_server.specs.declared.leaving.Leaving.{Leaving}
-use Rattle.lock_server.specs.Clients.{is_within}
-use Rattle.lock_server.specs.Leaving.{is_leaving}
-use Rattle.lock_server.specs.Pendings.{is_byte_wait, is_of_bytes}
 use Rattle.lock_server.proofs.AskingLemmas.{both, none_hits}
 use Rattle.lock_server.proofs.asking.LeavingQueryPendingHull.may_hit.Goals as goal
 

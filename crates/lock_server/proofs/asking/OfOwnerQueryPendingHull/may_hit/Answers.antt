@@ -1,6 +1,5 @@
-use Rattle.std.proofs.Common.{◌&&◌, ◌==◌, arith}
-use Rattle.std.proofs.lemmas.Bool.{eqb-true}
-use Rattle.lock_server.specs.Asking.{is_of_kind}
+use Rattle.lock_server.proofs.Common.{◌==◌, arith, eqb-true, is_of_kind}
+use Rattle.std.proofs.Common.{◌&&◌}
 use Rattle.lock_server.proofs.AskingLemmas.{both, none_hits}
 use Rattle.lock_server.proofs.asking.OfOwnerQueryPendingHull.may_hit.Goals as goal
 

@@ -1,5 +1,4 @@
-use Rattle.std.proofs.Common.{◌==◌, arith}
-use Rattle.std.proofs.lemmas.Bool.{eqb-true}
+use Rattle.lock_server.proofs.Common.{◌==◌, arith, eqb-true}
 use Rattle.lock_server.proofs.AskingLemmas.{none_hits}
 use Rattle.lock_server.proofs.asking.TicketedQueryPendingHull.may_hit.Goals as goal
 

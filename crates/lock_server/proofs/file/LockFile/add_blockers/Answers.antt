@@ -1,9 +1,4 @@
-use Rattle.std.proofs.Common.{sym, subst, take}
-use Rattle.std.proofs.lemmas.Result.{on_ok_weaker}
-use Rattle.wait_core.specs.declared.Policy.{Policy}
-use Rattle.lock_server.specs.Blockers.{AddsOwners}
-use Rattle.lock_server.specs.Deadlock.{IsBlockedByOwner}
-use Rattle.lock_server.specs.FileView.{file_state}
+use Rattle.lock_server.proofs.Common.{sym, subst, take, on_ok_weaker, Policy, AddsOwners, IsBlockedByOwner, file_state}
 use Rattle.lock_server.proofs.GatheredOwnerLemmas.{AddsOwners-both}
 use Rattle.lock_server.proofs.file.LockFile.add_blockers.Goals as goal
 

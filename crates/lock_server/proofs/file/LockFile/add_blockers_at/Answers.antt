@@ -1,10 +1,4 @@
-use Rattle.std.proofs.Common.{◌≡◌, ◌∙◌, None, Some, sym, subst, take}
-use Rattle.std.specs.Prelude.{OnOk}
-use Rattle.std.proofs.lemmas.Option.{same_Some}
-use Rattle.lock_server.specs.declared.Pending.{Pending}
-use Rattle.lock_server.specs.Blockers.{AddsOwners}
-use Rattle.lock_server.specs.Deadlock.{IsBlockedByOwner}
-use Rattle.lock_server.specs.FileView.{file_state}
+use Rattle.lock_server.proofs.Common.{◌≡◌, ◌∙◌, None, Some, sym, subst, take, OnOk, same_Some, Pending, AddsOwners, IsBlockedByOwner, file_state}
 use Rattle.lock_server.proofs.GrantLemmas.{range_at}
 use Rattle.lock_server.proofs.file.LockFile.add_blockers_at.Goals as goal
 

@@ -1,5 +1,4 @@
-use Rattle.std.proofs.Common.{arith, refl}
-use Rattle.lock_server.specs.FileView.{file_state}
+use Rattle.lock_server.proofs.Common.{arith, refl, file_state}
 use Rattle.lock_server.proofs.BlockerLemmas.{holders_more, holders_rest, none_before}
 use Rattle.lock_server.proofs.GatheredOwnerLemmas.{AddsOwners-same}
 use Rattle.lock_server.proofs.file.LockFile.add_byte_holders.Goals as goal

@@ -1,6 +1,4 @@
-use Rattle.std.proofs.Common.{◌≡◌, ◌≤◌, ◌-◌, ◌^◌}
-use Rattle.lock_server.specs.Blockers.{AddsOwners, BlocksBefore}
-use Rattle.lock_server.specs.FileView.{file_state}
+use Rattle.lock_server.proofs.Common.{◌≡◌, ◌≤◌, ◌-◌, ◌^◌, AddsOwners, BlocksBefore, file_state}
 use Rattle.lock_server.proofs.file.LockFile.add_byte_holders.Given as goal
 
 abbrev pub invariant-loop-next : goal.invariant-loop-next

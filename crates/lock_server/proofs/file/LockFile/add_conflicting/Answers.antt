@@ -1,6 +1,4 @@
-use Rattle.std.proofs.Common.{◌+◌, take, arith}
-use Rattle.std.proofs.lemmas.Grind.{common_steps}
-use Rattle.lock_server.specs.FileView.{file_state}
+use Rattle.lock_server.proofs.Common.{◌+◌, take, arith, common_steps, file_state}
 use Rattle.lock_server.proofs.BlockerLemmas.{all_in_the_way}
 use Rattle.lock_server.proofs.ConflictingLemmas.{conflict_more, conflicts_passed, few_taken}
 use Rattle.lock_server.proofs.GatheredOwnerLemmas.{AddsOwners-same}

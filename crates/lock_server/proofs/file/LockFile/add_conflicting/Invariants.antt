@@ -1,6 +1,4 @@
-use Rattle.std.proofs.Common.{◌-◌, ◌^◌, take}
-use Rattle.lock_server.specs.Blockers.{AddsOwners}
-use Rattle.lock_server.specs.FileView.{file_state}
+use Rattle.lock_server.proofs.Common.{◌-◌, ◌^◌, take, AddsOwners, file_state}
 use Rattle.lock_server.proofs.ConflictingLemmas.{InTheWay}
 use Rattle.lock_server.proofs.GatheredOwnerLemmas.{IsGivenBefore}
 use Rattle.lock_server.proofs.file.LockFile.add_conflicting.Given as goal

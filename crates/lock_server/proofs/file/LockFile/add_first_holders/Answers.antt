@@ -1,7 +1,4 @@
-use Rattle.std.proofs.Common.{ℕ, ◌+◌, ◌∙◌, arith, refl, sym}
-use Rattle.range_core.specs.declared.Span.{Span}
-use Rattle.lock_server.specs.Blockers.{BlocksBefore, BlocksOn}
-use Rattle.lock_server.specs.FileView.{file_state}
+use Rattle.lock_server.proofs.Common.{ℕ, ◌+◌, ◌∙◌, arith, refl, sym, Span, BlocksBefore, BlocksOn, file_state}
 use Rattle.lock_server.specs.Locks.{IsInTheWay}
 use Rattle.lock_server.proofs.BlockerLemmas.{has_first, holder_added, none_found, none_in_the_way, up_to_end}
 use Rattle.lock_server.proofs.GatheredOwnerLemmas.{AddsOwners-as, AddsOwners-same}

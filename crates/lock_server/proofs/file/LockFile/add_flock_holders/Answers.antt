@@ -1,6 +1,4 @@
-use Rattle.std.proofs.Common.{◌≡◌, ◌∙◌, inl, inr, sym, refl, true, false}
-use Rattle.lock_server.specs.FileView.{file_state}
-use Rattle.lock_server.specs.Listing.{number_behind}
+use Rattle.lock_server.proofs.Common.{◌≡◌, ◌∙◌, inl, inr, sym, refl, true, false, file_state, number_behind}
 use Rattle.lock_server.proofs.BlockerLemmas.{flock_pushed, flock_skipped, flocks_all}
 use Rattle.lock_server.proofs.file.LockFile.add_flock_holders.Goals as goal
 use Rattle.lock_server.proofs.file.LockFile.add_flock_holders.Goals.{else-lock-owner-via-then-lock-owner+else-conflicts_with, else-lock-owner-via-else-lock-owner}

@@ -1,7 +1,4 @@
-use Rattle.std.proofs.Common.{◌-◌, ◌^◌}
-use Rattle.lock_server.specs.Blockers.{AddsOwners}
-use Rattle.lock_server.specs.FileView.{file_state}
-use Rattle.lock_server.specs.Listing.{number_behind}
+use Rattle.lock_server.proofs.Common.{◌-◌, ◌^◌, AddsOwners, file_state, number_behind}
 use Rattle.lock_server.proofs.BlockerLemmas.{IsFlockHolderBelow}
 use Rattle.lock_server.proofs.file.LockFile.add_flock_holders.Given as goal
 

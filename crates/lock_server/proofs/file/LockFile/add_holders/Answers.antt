@@ -1,7 +1,4 @@
-use Rattle.std.proofs.lemmas.Result.{on_ok_weaker}
-use Rattle.lock_server.specs.Blockers.{BlocksOn, IsFlockHolder}
-use Rattle.lock_server.specs.Deadlock.{BlocksIn}
-use Rattle.lock_server.specs.FileView.{file_state}
+use Rattle.lock_server.proofs.Common.{on_ok_weaker, BlocksOn, IsFlockHolder, BlocksIn, file_state}
 use Rattle.lock_server.proofs.BlockerLemmas.{by_bytes, by_flock}
 use Rattle.lock_server.proofs.GatheredOwnerLemmas.{AddsOwners-as}
 use Rattle.lock_server.proofs.file.LockFile.add_holders.Goals as goal

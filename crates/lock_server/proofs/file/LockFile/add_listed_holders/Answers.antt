@@ -1,11 +1,4 @@
-use Rattle.std.proofs.Common.{ℕ, ◌≡◌, ◌∙◌, sym, subst, Some}
-use Rattle.std.specs.Map.{lookup}
-use Rattle.std.specs.Map.Iter.{deref_pair}
-use Rattle.std.proofs.lemmas.Map.Iter.{iter_end}
-use Rattle.range_core.specs.Changes.{modes_of}
-use Rattle.lock_server.specs.Blockers.{BlocksOn}
-use Rattle.lock_book.specs.Owners.{is_same_owner}
-use Rattle.lock_server.specs.FileView.{file_state}
+use Rattle.lock_server.proofs.Common.{ℕ, ◌≡◌, ◌∙◌, sym, subst, Some, lookup, deref_pair, iter_end, modes_of, BlocksOn, is_same_owner, file_state}
 use Rattle.lock_server.proofs.BlockerLemmas.{hit_blocks, listed_all, listed_push, listed_skip, no_hit}
 use Rattle.lock_server.proofs.ExportLemmas.{description_same, list_modes}
 use Rattle.lock_server.proofs.WalkLemmas.{next_entry}

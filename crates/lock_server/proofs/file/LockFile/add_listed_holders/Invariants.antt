@@ -1,5 +1,4 @@
-use Rattle.lock_server.specs.Blockers.{AddsOwners}
-use Rattle.lock_server.specs.FileView.{file_state}
+use Rattle.lock_server.proofs.Common.{AddsOwners, file_state}
 use Rattle.lock_server.proofs.BlockerLemmas.{IsListedHolder}
 use Rattle.lock_server.proofs.file.LockFile.add_listed_holders.Given as goal
 

@@ -1,7 +1,4 @@
-use Rattle.std.proofs.Common.{◌≡◌, ◌∙◌, None, Some, sym, ap}
-use Rattle.std.proofs.lemmas.Option.{same_Some}
-use Rattle.lock_server.specs.declared.Pending.{Pending}
-use Rattle.lock_server.specs.FileView.{file_state}
+use Rattle.lock_server.proofs.Common.{◌≡◌, ◌∙◌, None, Some, sym, ap, same_Some, Pending, file_state}
 use Rattle.lock_server.proofs.GatheredOwnerLemmas.{AddsOwners-push}
 use Rattle.lock_server.proofs.file.LockFile.add_owner_at.Goals as goal
 

@@ -1,11 +1,6 @@
-use Rattle.std.proofs.Common.{◌+◌, ◌==◌, ◌&&◌, length, take, subst, arith}
-use Rattle.std.proofs.lemmas.Grind.{common_steps}
-use Rattle.arrival_list.specs.Places.{IsPlaceFrom}
-use Rattle.lock_server.specs.declared.Pending.{Pending}
+use Rattle.lock_server.proofs.Common.{◌+◌, ◌==◌, length, take, subst, arith, common_steps, IsPlaceFrom, Pending, is_of_kind, IsBlockedByOwner, file_state}
+use Rattle.std.proofs.Common.{◌&&◌}
 use Rattle.lock_server.specs.declared.asking.Kind.TheVariants.{Detected}
-use Rattle.lock_server.specs.Asking.{is_of_kind}
-use Rattle.lock_server.specs.Deadlock.{IsBlockedByOwner}
-use Rattle.lock_server.specs.FileView.{file_state}
 use Rattle.lock_server.proofs.BlockerLemmas.{IsStepAt, all_steps}
 use Rattle.lock_server.proofs.ConflictingLemmas.{next_detected, none_detected}
 use Rattle.lock_server.proofs.GatheredOwnerLemmas.{AddsOwners-as, AddsOwners-same, gathered_more, gathered_past}

@@ -1,6 +1,4 @@
-use Rattle.std.proofs.Common.{◌-◌, ◌^◌}
-use Rattle.lock_server.specs.Blockers.{AddsOwners}
-use Rattle.lock_server.specs.FileView.{file_state}
+use Rattle.lock_server.proofs.Common.{◌-◌, ◌^◌, AddsOwners, file_state}
 use Rattle.lock_server.proofs.BlockerLemmas.{IsStepAt}
 use Rattle.lock_server.proofs.GatheredOwnerLemmas.{IsGivenBefore}
 use Rattle.lock_server.proofs.file.LockFile.add_steps.Given as goal

@@ -1,5 +1,4 @@
-use Rattle.lock_book.specs.Books.{byte_modes_of}
-use Rattle.lock_server.specs.FileView.{file_state}
+use Rattle.lock_server.proofs.Common.{byte_modes_of, file_state}
 use Rattle.lock_server.proofs.NumberLemmas.{first_by_number}
 use Rattle.lock_server.proofs.file.LockFile.blocker.Goals as goal
 

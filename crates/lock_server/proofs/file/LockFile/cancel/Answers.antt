@@ -1,9 +1,4 @@
-use Rattle.std.proofs.Common.{arith, ◌==◌, subst}
-use Rattle.std.proofs.lemmas.Grind.{common_steps}
-use Rattle.std.proofs.lemmas.Bool.{eq-eqb, eqb-true}
-use Rattle.arrival_list.specs.Places.{IsPlaceFrom}
-use Rattle.lock_server.specs.declared.Pending.{Pending}
-use Rattle.lock_server.specs.FileView.{file_state}
+use Rattle.lock_server.proofs.Common.{arith, ◌==◌, subst, common_steps, eq-eqb, eqb-true, IsPlaceFrom, Pending, file_state}
 use Rattle.lock_server.proofs.FileLemmas.{left_still}
 use Rattle.lock_server.proofs.GrantLemmas.{found_passes, none_passes, found_within}
 use Rattle.lock_server.proofs.file.LockFile.cancel.Goals as goal

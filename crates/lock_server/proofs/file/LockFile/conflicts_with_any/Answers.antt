@@ -1,7 +1,5 @@
-use Rattle.std.proofs.Common.{sym, subst}
-use Rattle.std.specs.Prelude.{◌↔◌, Bool, IsTrue, Any, take}
-use Rattle.lock_server.specs.Settling.{PendingsConflict}
-use Rattle.lock_server.specs.FileView.{file_state}
+use Rattle.lock_server.proofs.Common.{sym, subst, ◌↔◌, IsTrue, PendingsConflict, file_state}
+use Rattle.std.specs.Prelude.{Bool, Any, take}
 use Rattle.lock_server.proofs.ConflictingLemmas.{any_conflicts}
 use Rattle.lock_server.proofs.file.LockFile.conflicts_with_any.Goals as goal
 

@@ -1,7 +1,4 @@
-use Rattle.std.proofs.Common.{ℕ, ◌+◌, ◌∙◌, ap, arith}
-use Rattle.lock_server.specs.Counting.{lock_of, told}
-use Rattle.lock_server.specs.FileView.{file_state}
-use Rattle.lock_server.specs.Listing.{number_behind}
+use Rattle.lock_server.proofs.Common.{ℕ, ◌+◌, ◌∙◌, ap, arith, lock_of, told, file_state, number_behind}
 use Rattle.lock_server.proofs.CountLemmas.{counting_all, counting_more, counting_none}
 use Rattle.lock_server.proofs.file.LockFile.count_flock_locks.Goals as goal
 

@@ -1,7 +1,4 @@
-use Rattle.std.proofs.Common.{ℕ, ◌+◌, ◌∙◌, ap, arith}
-use Rattle.lock_server.specs.Counting.{runs_of, told}
-use Rattle.lock_server.specs.FileView.{file_state}
-use Rattle.lock_server.specs.Listing.{number_behind}
+use Rattle.lock_server.proofs.Common.{ℕ, ◌+◌, ◌∙◌, ap, arith, runs_of, told, file_state, number_behind}
 use Rattle.lock_server.proofs.CountLemmas.{counting_all, counting_more, counting_none, no_runs}
 use Rattle.lock_server.proofs.file.LockFile.count_runs.Goals as goal
 

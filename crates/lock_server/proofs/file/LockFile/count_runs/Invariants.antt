@@ -1,7 +1,4 @@
-use Rattle.std.proofs.Common.{◌-◌, ◌^◌}
-use Rattle.lock_server.specs.Counting.{runs_of}
-use Rattle.lock_server.specs.FileView.{file_state}
-use Rattle.lock_server.specs.Listing.{number_behind}
+use Rattle.lock_server.proofs.Common.{◌-◌, ◌^◌, runs_of, file_state, number_behind}
 use Rattle.lock_server.proofs.CountLemmas.{IsCounting}
 use Rattle.lock_server.proofs.file.LockFile.count_runs.Given as goal
 

@@ -1,8 +1,4 @@
-use Rattle.std.proofs.Common.{arith, subst}
-use Rattle.std.proofs.lemmas.Grind.{common_steps}
-use Rattle.arrival_list.specs.Places.{IsPlaceFrom}
-use Rattle.lock_server.specs.FileView.{file_state}
-use Rattle.lock_server.specs.Leaving.{is_leaving}
+use Rattle.lock_server.proofs.Common.{arith, subst, common_steps, IsPlaceFrom, file_state, is_leaving}
 use Rattle.lock_server.proofs.GrantLemmas.{found_passes, none_passes, found_within}
 use Rattle.lock_server.proofs.file.LockFile.dismiss.Goals as goal
 

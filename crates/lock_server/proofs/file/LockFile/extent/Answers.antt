@@ -1,8 +1,4 @@
-use Rattle.std.proofs.Common.{◌≡◌, ℕ, None, sym, subst}
-use Rattle.std.specs.Prelude.{IfNone, IfSome}
-use Rattle.range_core.specs.Changes.{modes_of}
-use Rattle.range_core.specs.Ranges.{Covers, Modes}
-use Rattle.lock_server.specs.FileView.{file_state}
+use Rattle.lock_server.proofs.Common.{◌≡◌, ℕ, None, sym, subst, IfNone, IfSome, modes_of, Covers, Modes, file_state}
 use Rattle.lock_server.proofs.ExtentLemmas.{modes_from_same}
 use Rattle.lock_server.proofs.file.LockFile.extent.Goals as goal
 

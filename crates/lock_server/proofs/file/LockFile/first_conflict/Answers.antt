@@ -1,6 +1,4 @@
-use Rattle.std.proofs.Common.{◌∙◌, sym, arith}
-use Rattle.std.proofs.lemmas.Grind.{common_steps}
-use Rattle.lock_server.specs.FileView.{file_state}
+use Rattle.lock_server.proofs.Common.{◌∙◌, sym, arith, common_steps, file_state}
 use Rattle.lock_server.proofs.ConflictingLemmas.{first_conflict, no_conflict}
 use Rattle.lock_server.proofs.file.LockFile.first_conflict.Goals as goal
 

@@ -1,7 +1,5 @@
-use Rattle.std.proofs.Common.{◌<◌, ◌-◌, ◌^◌}
-use Rattle.lock_server.specs.declared.FlockLock.{FlockLock}
-use Rattle.lock_server.specs.FileView.{file_state}
-use Rattle.lock_server.specs.Listing.{IsFlockInTheWay, number_behind}
+use Rattle.lock_server.proofs.Common.{◌<◌, ◌-◌, ◌^◌, FlockLock, file_state, number_behind}
+use Rattle.lock_server.specs.Listing.{IsFlockInTheWay}
 use Rattle.lock_server.proofs.file.LockFile.flock_blocker.Given as goal
 
 -- none of the locks that were passed over is in the way

@@ -1,5 +1,4 @@
-use Rattle.std.proofs.Common.{sym}
-use Rattle.lock_server.specs.FileView.{file_state}
+use Rattle.lock_server.proofs.Common.{sym, file_state}
 use Rattle.lock_server.proofs.FreedLemmas.{flock_frees_nobody, flock_frees_there}
 use Rattle.lock_server.proofs.file.LockFile.freed_by_flock_release.Goals as goal
 

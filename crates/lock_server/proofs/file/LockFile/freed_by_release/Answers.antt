@@ -1,4 +1,4 @@
-use Rattle.lock_server.specs.FileView.{file_state}
+use Rattle.lock_server.proofs.Common.{file_state}
 use Rattle.lock_server.proofs.FreedLemmas.{release_frees_nobody, release_frees_there}
 use Rattle.lock_server.proofs.file.LockFile.freed_by_release.Goals as goal
 

@@ -1,10 +1,4 @@
-use Rattle.std.proofs.Common.{sym, subst, Option}
-use Rattle.range_core.specs.declared.Mode.{Mode}
-use Rattle.wait_core.specs.declared.Family.TheVariants.{Bytes}
-use Rattle.wait_core.specs.declared.Policy.{Policy}
-use Rattle.lock_server.specs.declared.freed.Freed.TheVariants.{Nobody, Of}
-use Rattle.lock_server.specs.FileView.{file_state}
-use Rattle.lock_server.specs.Freed.{SetFrees, TakesNothing}
+use Rattle.lock_server.proofs.Common.{sym, subst, Option, Mode, Bytes, Policy, Nobody, Of, file_state, SetFrees, TakesNothing}
 use Rattle.lock_server.proofs.FreedLemmas.{set_frees_nobody, set_frees_own, set_frees_there, unlock_frees_nobody}
 use Rattle.lock_server.proofs.file.LockFile.freed_by_set.Goals as goal
 

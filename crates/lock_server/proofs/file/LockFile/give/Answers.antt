@@ -1,7 +1,4 @@
-use Rattle.std.proofs.lemmas.Grind.{common_steps}
-use Rattle.std.proofs.Common.{arith}
-use Rattle.lock_book.specs.declared.Owner.TheVariants.{Description}
-use Rattle.lock_server.specs.FileView.{file_state, keeps_place}
+use Rattle.lock_server.proofs.Common.{common_steps, arith, Description, file_state, keeps_place}
 use Rattle.lock_server.proofs.GrantLemmas.{room_for_one, place_for_one}
 use Rattle.lock_server.proofs.RoomLemmas.{HasRoom-granted, HasRoom-kept, KeepsRoom-sets}
 use Rattle.lock_server.proofs.file.LockFile.give.Goals as goal

@@ -1,6 +1,4 @@
-use Rattle.std.proofs.Common.{arith, ℕ, subst, sym}
-use Rattle.std.proofs.lemmas.Grind.{common_steps}
-use Rattle.lock_server.specs.FileView.{file_state}
+use Rattle.lock_server.proofs.Common.{arith, ℕ, subst, sym, common_steps, file_state}
 use Rattle.lock_server.proofs.AddingLemmas.{blocked_behind, none_blocked}
 use Rattle.lock_server.proofs.GrantLemmas.{gets_where_it_stood, grants_at, one_fewer, range_at}
 use Rattle.lock_server.specs.Waiting.{AreBlockedTo}

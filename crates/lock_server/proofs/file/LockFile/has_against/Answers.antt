@@ -1,7 +1,4 @@
-use Rattle.std.proofs.Common.{subst, Option}
-use Rattle.range_core.specs.declared.Mode.{Mode}
-use Rattle.range_core.specs.Ranges.{HeldConflicts}
-use Rattle.lock_server.specs.FileView.{file_state}
+use Rattle.lock_server.proofs.Common.{subst, Option, Mode, HeldConflicts, file_state}
 use Rattle.lock_server.proofs.ExtentLemmas.{none_found}
 use Rattle.lock_server.proofs.file.LockFile.has_against.Goals as goal
 

@@ -1,5 +1,4 @@
-use Rattle.range_core.specs.Changes.{modes_of}
-use Rattle.lock_server.specs.FileView.{file_state}
+use Rattle.lock_server.proofs.Common.{modes_of, file_state}
 use Rattle.lock_server.proofs.HasLockLemmas.{runs_told}
 use Rattle.lock_server.proofs.file.LockFile.has_byte_lock.Goals as goal
 

@@ -1,5 +1,4 @@
-use Rattle.std.proofs.Common.{arith}
-use Rattle.std.proofs.lemmas.Grind.{common_steps}
+use Rattle.lock_server.proofs.Common.{arith, common_steps}
 use Rattle.lock_server.proofs.HasLockLemmas.{flock_told}
 use Rattle.lock_server.proofs.file.LockFile.has_flock_lock.Goals as goal
 

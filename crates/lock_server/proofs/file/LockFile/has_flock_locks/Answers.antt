@@ -1,7 +1,4 @@
-use Rattle.std.proofs.Common.{◌≡◌, arith, refl, true, false}
-use Rattle.lock_server.specs.Clients.{HasFlockLock}
-use Rattle.lock_server.specs.FileView.{file_state}
-use Rattle.lock_server.specs.Listing.{number_behind}
+use Rattle.lock_server.proofs.Common.{◌≡◌, arith, refl, true, false, HasFlockLock, file_state, number_behind}
 use Rattle.lock_server.proofs.HasLockLemmas.{is_one, no_flock_lock, none_first, none_more, none_within}
 use Rattle.lock_server.proofs.file.LockFile.has_flock_locks.Goals as goal
 

@@ -1,7 +1,4 @@
-use Rattle.std.proofs.Common.{◌-◌, ◌^◌}
-use Rattle.lock_server.specs.Clients.{HasFlockLock}
-use Rattle.lock_server.specs.FileView.{file_state}
-use Rattle.lock_server.specs.Listing.{number_behind}
+use Rattle.lock_server.proofs.Common.{◌-◌, ◌^◌, HasFlockLock, file_state, number_behind}
 use Rattle.lock_server.proofs.HasLockLemmas.{NoneBelow}
 use Rattle.lock_server.proofs.file.LockFile.has_flock_locks.Given as goal
 

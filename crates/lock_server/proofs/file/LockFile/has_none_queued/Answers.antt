@@ -1,10 +1,6 @@
-use Rattle.std.proofs.Common.{◌≡◌, ◌==◌, ◌&&◌, subst, arith}
-use Rattle.std.proofs.lemmas.Grind.{common_steps}
-use Rattle.std.proofs.lemmas.Bool.{eq-eqb}
-use Rattle.arrival_list.specs.Places.{IsPlaceFrom}
+use Rattle.lock_server.proofs.Common.{◌≡◌, ◌==◌, subst, arith, common_steps, eq-eqb, IsPlaceFrom, is_of_kind, file_state}
+use Rattle.std.proofs.Common.{◌&&◌}
 use Rattle.lock_server.specs.declared.asking.Kind.TheVariants.{Any}
-use Rattle.lock_server.specs.Asking.{is_of_kind}
-use Rattle.lock_server.specs.FileView.{file_state}
 use Rattle.lock_server.proofs.PlaceFromLemmas.{none_at_all, none_before}
 use Rattle.lock_server.proofs.file.LockFile.has_none_queued.Goals as goal
 

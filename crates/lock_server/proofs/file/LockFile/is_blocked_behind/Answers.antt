@@ -1,6 +1,4 @@
-use Rattle.std.proofs.Common.{take}
-use Rattle.lock_server.specs.FileView.{file_state}
-use Rattle.lock_server.specs.Settling.{HasAlready}
+use Rattle.lock_server.proofs.Common.{take, file_state, HasAlready}
 use Rattle.lock_server.proofs.ListLemmas.{queued}
 use Rattle.lock_server.proofs.file.LockFile.is_blocked_behind.Goals as goal
 

@@ -1,11 +1,7 @@
-use Rattle.std.proofs.Common.{◌≡◌, ◌==◌, ◌&&◌, ◌∙◌, true, false, sym, subst}
-use Rattle.std.specs.Prelude.{◌↔◌, Bool, IsTrue}
-use Rattle.std.proofs.lemmas.Bool.{eq-eqb, eqb-true}
-use Rattle.lock_server.specs.declared.Pending.{Pending}
+use Rattle.lock_server.proofs.Common.{◌≡◌, ◌==◌, ◌∙◌, true, false, sym, subst, ◌↔◌, IsTrue, eq-eqb, eqb-true, Pending, is_of_kind, file_state, AreOfOthers}
+use Rattle.std.proofs.Common.{◌&&◌}
+use Rattle.std.specs.Prelude.{Bool}
 use Rattle.lock_server.specs.declared.asking.Kind.TheVariants.{Any}
-use Rattle.lock_server.specs.Asking.{is_of_kind}
-use Rattle.lock_server.specs.FileView.{file_state}
-use Rattle.lock_server.specs.Holding.{AreOfOthers}
 use Rattle.lock_server.proofs.PlaceFromLemmas.{not_all_others}
 use Rattle.lock_server.proofs.file.LockFile.is_waiting.Goals as goal
 

@@ -1,5 +1,4 @@
-use Rattle.std.proofs.Common.{◌∙◌, sym}
-use Rattle.lock_server.specs.FileView.{file_state}
+use Rattle.lock_server.proofs.Common.{◌∙◌, sym, file_state}
 use Rattle.lock_server.proofs.AddingLemmas.{leaves_blocked}
 use Rattle.lock_server.proofs.file.LockFile.leaves_blocked.Goals as goal
 

@@ -1,7 +1,4 @@
-use Rattle.std.proofs.Common.{◌≡◌, ap, Some}
-use Rattle.range_core.specs.declared.Mode.{Mode}
-use Rattle.range_core.specs.declared.Mode.TheVariants.{Read, Write}
-use Rattle.lock_server.specs.FileView.{file_state}
+use Rattle.lock_server.proofs.Common.{◌≡◌, ap, Some, Mode, Read, Write, file_state}
 use Rattle.lock_server.proofs.FreedLemmas.{takes_nothing_by_read, takes_nothing_by_write}
 use Rattle.lock_server.proofs.file.LockFile.lessens.Goals as goal
 

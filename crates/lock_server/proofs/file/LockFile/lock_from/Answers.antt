@@ -1,7 +1,4 @@
-use Rattle.lock_book.specs.declared.Owner.TheVariants.{Description}
-use Rattle.lock_book.specs.Books.{byte_modes_of}
-use Rattle.range_core.specs.Changes.{modes_of}
-use Rattle.lock_server.specs.FileView.{file_state}
+use Rattle.lock_server.proofs.Common.{Description, byte_modes_of, modes_of, file_state}
 use Rattle.lock_server.proofs.RunLemmas.{first_run_as}
 use Rattle.lock_server.proofs.file.LockFile.lock_from.Goals as goal
 

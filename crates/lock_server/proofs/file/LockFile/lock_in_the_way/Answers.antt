@@ -1,5 +1,4 @@
-use Rattle.std.proofs.Common.{arith}
-use Rattle.std.proofs.lemmas.Grind.{common_steps}
+use Rattle.lock_server.proofs.Common.{arith, common_steps}
 use Rattle.lock_server.proofs.ListingLemmas.{not_held_by_flock}
 use Rattle.lock_server.proofs.file.LockFile.lock_in_the_way.Goals as goal
 

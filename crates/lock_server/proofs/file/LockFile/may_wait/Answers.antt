@@ -1,7 +1,4 @@
-use Rattle.std.proofs.Common.{◌≡◌, ◌∙◌, sym, arith}
-use Rattle.lock_book.specs.declared.Owner.TheVariants.{Description}
-use Rattle.lock_book.specs.Books.{room_in}
-use Rattle.lock_server.specs.FileView.{file_state}
+use Rattle.lock_server.proofs.Common.{◌≡◌, ◌∙◌, sym, arith, Description, room_in, file_state}
 use Rattle.lock_server.proofs.RoomFreeLemmas.{no_room_no_wait}
 use Rattle.lock_server.proofs.file.LockFile.may_wait.Goals as goal
 

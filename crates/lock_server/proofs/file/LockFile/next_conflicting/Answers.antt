@@ -1,8 +1,5 @@
-use Rattle.std.proofs.Common.{subst, arith}
-use Rattle.std.proofs.lemmas.Grind.{common_steps}
-use Rattle.arrival_list.specs.Places.{IsPlaceFrom}
-use Rattle.lock_server.specs.Asking.{are_conflicting, NoneConflicts}
-use Rattle.lock_server.specs.FileView.{file_state}
+use Rattle.lock_server.proofs.Common.{subst, arith, common_steps, IsPlaceFrom, are_conflicting, file_state}
+use Rattle.lock_server.specs.Asking.{NoneConflicts}
 use Rattle.lock_server.proofs.ConflictingLemmas.{next_conflict, none_further, none_so_far}
 use Rattle.lock_server.proofs.file.LockFile.next_conflicting.Goals as goal
 

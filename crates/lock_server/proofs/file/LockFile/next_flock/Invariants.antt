@@ -1,6 +1,4 @@
-use Rattle.std.proofs.Common.{◌≡◌, ◌≤◌, ◌<◌, ◌-◌, ◌^◌, ℕ, None}
-use Rattle.lock_server.specs.FileView.{file_state}
-use Rattle.lock_server.specs.Listing.{number_behind}
+use Rattle.lock_server.proofs.Common.{◌≡◌, ◌≤◌, ◌<◌, ◌-◌, ◌^◌, ℕ, None, file_state, number_behind}
 use Rattle.lock_server.proofs.file.LockFile.next_flock.Given as goal
 
 -- none of the owners that were passed over has a flock lock

@@ -1,5 +1,4 @@
-use Rattle.lock_server.specs.FileView.{file_state}
-use Rattle.lock_server.specs.Listing.{number_behind}
+use Rattle.lock_server.proofs.Common.{file_state, number_behind}
 use Rattle.lock_server.proofs.FlockOwnerLemmas.{known_least, known_none}
 use Rattle.lock_server.proofs.file.LockFile.next_flock_owner.Goals as goal
 

@@ -1,7 +1,4 @@
-use Rattle.std.proofs.Common.{arith}
-use Rattle.std.proofs.lemmas.Grind.{common_steps}
-use Rattle.lock_book.specs.Books.{byte_modes_of}
-use Rattle.lock_server.specs.FileView.{file_state}
+use Rattle.lock_server.proofs.Common.{arith, common_steps, byte_modes_of, file_state}
 use Rattle.lock_server.proofs.ListedLemmas.{first_beyond, first_no_process, least_listed, none_anyhow, none_listed}
 use Rattle.lock_server.proofs.file.LockFile.next_listed.Goals as goal
 use Rattle.lock_server.proofs.file.LockFile.next_listed.Goals.{in-None, in-Some}

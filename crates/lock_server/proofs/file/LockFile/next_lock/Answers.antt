@@ -1,4 +1,4 @@
-use Rattle.lock_server.specs.FileView.{file_state}
+use Rattle.lock_server.proofs.Common.{file_state}
 use Rattle.lock_server.proofs.NextLockLemmas.{found_behind, found_here, none_behind, passed_itself, passed_more}
 use Rattle.lock_server.proofs.file.LockFile.next_lock.Goals as goal
 

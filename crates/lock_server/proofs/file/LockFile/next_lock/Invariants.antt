@@ -1,5 +1,4 @@
-use Rattle.std.proofs.Common.{◌-◌, ◌^◌}
-use Rattle.lock_server.specs.FileView.{file_state}
+use Rattle.lock_server.proofs.Common.{◌-◌, ◌^◌, file_state}
 use Rattle.lock_server.proofs.NextLockLemmas.{ArePassed}
 use Rattle.lock_server.proofs.file.LockFile.next_lock.Given as goal
 

@@ -1,6 +1,4 @@
-use Rattle.std.proofs.Common.{take, arith}
-use Rattle.std.proofs.lemmas.Grind.{common_steps}
-use Rattle.lock_server.specs.FileView.{file_state}
+use Rattle.lock_server.proofs.Common.{take, arith, common_steps, file_state}
 use Rattle.lock_server.proofs.ListingLemmas.{free_alone, free_in_queue}
 use Rattle.lock_server.proofs.file.LockFile.obstacle.Goals as goal
 

@@ -1,5 +1,4 @@
-use Rattle.std.proofs.Common.{arith}
-use Rattle.std.proofs.lemmas.Grind.{common_steps}
+use Rattle.lock_server.proofs.Common.{arith, common_steps}
 use Rattle.lock_server.proofs.RoomLemmas.{HasRoom-kept, KeepsRoom-reserves}
 use Rattle.lock_server.proofs.file.LockFile.place_flock.Goals as goal
 

@@ -1,4 +1,4 @@
-use Rattle.lock_server.specs.FileView.{file_state}
+use Rattle.lock_server.proofs.Common.{file_state}
 use Rattle.lock_server.proofs.ExportLemmas.{entry_put}
 use Rattle.lock_server.proofs.file.LockFile.put.Goals as goal
 

@@ -1,5 +1,4 @@
-use Rattle.lock_server.specs.FileView.{file_state}
-use Rattle.lock_server.specs.Listing.{number_behind}
+use Rattle.lock_server.proofs.Common.{file_state, number_behind}
 use Rattle.lock_server.proofs.ExportLemmas.{all_flocks, flock_below, no_flock_below, no_next}
 use Rattle.lock_server.proofs.file.LockFile.put_each_flock.Goals as goal
 

@@ -1,6 +1,4 @@
-use Rattle.std.proofs.Common.{◌-◌, ◌^◌}
-use Rattle.lock_server.specs.FileView.{file_state}
-use Rattle.lock_server.specs.Listing.{number_behind}
+use Rattle.lock_server.proofs.Common.{◌-◌, ◌^◌, file_state, number_behind}
 use Rattle.lock_server.proofs.ExportLemmas.{FlocksBelow}
 use Rattle.lock_server.proofs.file.LockFile.put_each_flock.Given as goal
 

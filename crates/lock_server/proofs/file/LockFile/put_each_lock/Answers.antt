@@ -1,10 +1,4 @@
-use Rattle.std.proofs.Common.{◌≡◌, Some}
-use Rattle.std.specs.Map.{lookup}
-use Rattle.std.specs.Map.Iter.{deref_pair}
-use Rattle.std.proofs.lemmas.Map.Iter.{iter_end}
-use Rattle.lock_server.specs.Bytes.{lock_words}
-use Rattle.lock_book.specs.Owners.{is_same_owner}
-use Rattle.lock_server.specs.FileView.{file_state}
+use Rattle.lock_server.proofs.Common.{◌≡◌, Some, lookup, deref_pair, iter_end, lock_words, is_same_owner, file_state}
 use Rattle.lock_server.proofs.ExportLemmas.{IsLockPiece, all_locks, list_modes, owner_piece_of, process_piece}
 use Rattle.lock_server.proofs.WalkLemmas.{next_entry, walked_more, walked_none, walked_past}
 use Rattle.lock_server.proofs.file.LockFile.put_each_lock.Goals as goal

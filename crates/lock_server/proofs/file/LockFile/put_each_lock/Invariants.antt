@@ -1,5 +1,4 @@
-use Rattle.lock_server.specs.Bytes.{lock_words}
-use Rattle.lock_server.specs.FileView.{file_state}
+use Rattle.lock_server.proofs.Common.{lock_words, file_state}
 use Rattle.lock_server.proofs.ExportLemmas.{IsLockPiece}
 use Rattle.lock_server.proofs.WalkLemmas.{Walked}
 use Rattle.lock_server.proofs.file.LockFile.put_each_lock.Given as goal

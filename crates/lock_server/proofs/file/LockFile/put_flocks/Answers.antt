@@ -1,8 +1,4 @@
-use Rattle.std.proofs.Common.{arith, refl}
-use Rattle.lock_server.specs.Bytes.{flock_words}
-use Rattle.lock_server.specs.FileView.{file_state}
-use Rattle.lock_server.specs.Inventory.{AreJust}
-use Rattle.lock_server.specs.Listing.{IsFlockLock, flock_place}
+use Rattle.lock_server.proofs.Common.{arith, refl, flock_words, file_state, AreJust, IsFlockLock, flock_place}
 use Rattle.lock_server.proofs.ExportLaws.{flocks_one}
 use Rattle.lock_server.proofs.WordLemmas.{counted}
 use Rattle.lock_server.proofs.file.LockFile.put_flocks.Goals as goal

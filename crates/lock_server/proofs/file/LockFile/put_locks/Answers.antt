@@ -1,7 +1,4 @@
-use Rattle.std.proofs.Common.{arith, refl}
-use Rattle.lock_server.specs.Bytes.{lock_words}
-use Rattle.lock_server.specs.FileView.{file_state}
-use Rattle.lock_server.specs.Inventory.{AreByteLocks}
+use Rattle.lock_server.proofs.Common.{arith, refl, lock_words, file_state, AreByteLocks}
 use Rattle.lock_server.proofs.ExportLaws.{byte_locks_one}
 use Rattle.lock_server.proofs.WordLemmas.{counted}
 use Rattle.lock_server.proofs.file.LockFile.put_locks.Goals as goal

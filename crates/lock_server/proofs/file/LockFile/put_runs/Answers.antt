@@ -1,7 +1,4 @@
-use Rattle.std.proofs.Common.{[]}
-use Rattle.range_core.specs.Changes.{modes_of}
-use Rattle.lock_server.specs.Bytes.{lock_words}
-use Rattle.lock_server.specs.FileView.{file_state}
+use Rattle.lock_server.proofs.Common.{[], modes_of, lock_words, file_state}
 use Rattle.lock_server.proofs.ExportLemmas.{lock_of, runs_put}
 use Rattle.lock_server.proofs.WordLemmas.{items_more}
 use Rattle.lock_server.proofs.file.LockFile.put_runs.Goals as goal

@@ -1,7 +1,4 @@
-use Rattle.std.proofs.Common.{take}
-use Rattle.std.specs.List.{flat_map}
-use Rattle.lock_server.specs.Bytes.{lock_words}
-use Rattle.lock_server.specs.Words.{Puts}
+use Rattle.lock_server.proofs.Common.{take, flat_map, lock_words, Puts}
 use Rattle.lock_server.proofs.ExportLemmas.{lock_of}
 use Rattle.lock_server.proofs.file.LockFile.put_runs.Given as goal
 

@@ -1,11 +1,4 @@
-use Rattle.std.proofs.Common.{◌≡◌, ◌≤◌, ◌∙◌, [], ◌∷◌, Some, length, sym, subst, arith}
-use Rattle.std.specs.Prelude.{slice_get}
-use Rattle.std.proofs.lemmas.Grind.{common_steps}
-use Rattle.std.proofs.lemmas.Option.{get_or_from_slice_get, slice_get_cases, slice_get_within}
-use Rattle.lock_server.specs.Bytes.{wait_words}
-use Rattle.lock_server.specs.declared.Pending.{Pending}
-use Rattle.lock_server.specs.FileView.{file_state}
-use Rattle.lock_server.specs.Words.{Puts}
+use Rattle.lock_server.proofs.Common.{◌≡◌, ◌≤◌, ◌∙◌, [], ◌∷◌, Some, length, sym, subst, arith, slice_get, common_steps, get_or_from_slice_get, slice_get_cases, slice_get_within, wait_words, Pending, file_state, Puts}
 use Rattle.lock_server.proofs.WordLemmas.{items_all, items_more}
 use Rattle.lock_server.proofs.file.LockFile.put_waits.Goals as goal
 

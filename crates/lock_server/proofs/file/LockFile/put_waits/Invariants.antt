@@ -1,8 +1,4 @@
-use Rattle.std.proofs.Common.{◌-◌, ◌∷◌, length, take}
-use Rattle.std.specs.List.{flat_map}
-use Rattle.lock_server.specs.Bytes.{wait_words}
-use Rattle.lock_server.specs.FileView.{file_state}
-use Rattle.lock_server.specs.Words.{Puts}
+use Rattle.lock_server.proofs.Common.{◌-◌, ◌∷◌, length, take, flat_map, wait_words, file_state, Puts}
 use Rattle.lock_server.proofs.file.LockFile.put_waits.Given as goal
 
 abbrev pub invariant-loop-wait : goal.invariant-loop-wait

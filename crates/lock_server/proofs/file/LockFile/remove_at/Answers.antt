@@ -1,6 +1,4 @@
-use Rattle.std.proofs.Common.{◌∙◌, inl, inr, refl, sym, arith}
-use Rattle.std.proofs.lemmas.Option.{get_or_from_slice_get, slice_get_cases}
-use Rattle.lock_server.specs.FileView.{file_state, keeps_place}
+use Rattle.lock_server.proofs.Common.{◌∙◌, inl, inr, refl, sym, arith, get_or_from_slice_get, slice_get_cases, file_state, keeps_place}
 use Rattle.lock_server.proofs.FileLemmas.{leaves_at, ranges_left, reserved_left, room_left}
 use Rattle.lock_server.proofs.file.LockFile.remove_at.Goals as goal
 

@@ -1,6 +1,4 @@
-use Rattle.std.proofs.lemmas.Grind.{common_steps}
-use Rattle.std.proofs.Common.{arith}
-use Rattle.lock_server.specs.FileView.{file_state, keeps_place}
+use Rattle.lock_server.proofs.Common.{common_steps, arith, file_state, keeps_place}
 use Rattle.lock_server.proofs.file.LockFile.reserve.Goals as goal
 
 pub returns-in-Whole-clause-same : goal.returns-in-Whole-clause-same

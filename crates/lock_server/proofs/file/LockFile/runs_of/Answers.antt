@@ -1,6 +1,4 @@
-use Rattle.std.proofs.Common.{◌∙◌, sym}
-use Rattle.range_core.specs.Changes.{modes_of}
-use Rattle.lock_server.specs.FileView.{file_state}
+use Rattle.lock_server.proofs.Common.{◌∙◌, sym, modes_of, file_state}
 use Rattle.lock_server.proofs.CountLemmas.{count_runs, no_runs, runs_of_same}
 use Rattle.lock_server.proofs.file.LockFile.runs_of.Goals as goal
 

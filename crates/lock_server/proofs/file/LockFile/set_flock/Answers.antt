@@ -1,6 +1,4 @@
-use Rattle.std.proofs.Common.{arith}
-use Rattle.std.proofs.lemmas.Grind.{common_steps}
-use Rattle.lock_server.specs.FileView.{keeps_place}
+use Rattle.lock_server.proofs.Common.{arith, common_steps, keeps_place}
 use Rattle.lock_server.proofs.FlockOwnerLemmas.{AreKnown-sets}
 use Rattle.lock_server.proofs.RoomLemmas.{HasRoom-kept, KeepsRoom-sets}
 use Rattle.lock_server.proofs.file.LockFile.set_flock.Goals as goal

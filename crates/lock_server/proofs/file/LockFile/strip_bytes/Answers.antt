@@ -1,6 +1,4 @@
-use Rattle.std.proofs.Common.{ℕ, ◌∙◌, arith}
-use Rattle.lock_server.specs.FileView.{file_state}
-use Rattle.lock_server.specs.Listing.{number_behind}
+use Rattle.lock_server.proofs.Common.{ℕ, ◌∙◌, arith, file_state, number_behind}
 use Rattle.lock_server.proofs.ClearedLemmas.{cleared_all, cleared_more}
 use Rattle.lock_server.proofs.file.LockFile.strip_bytes.Goals as goal
 

@@ -1,7 +1,4 @@
-use Rattle.std.proofs.Common.{◌≡◌, sym, subst, Option, Some}
-use Rattle.range_core.specs.declared.Mode.{Mode}
-use Rattle.lock_server.specs.FileView.{file_state}
-use Rattle.lock_server.specs.Freed.{TakesNothing}
+use Rattle.lock_server.proofs.Common.{◌≡◌, sym, subst, Option, Some, Mode, file_state, TakesNothing}
 use Rattle.lock_server.proofs.FreedLemmas.{takes_nothing_by_unlock}
 use Rattle.lock_server.proofs.file.LockFile.takes.Goals as goal
 

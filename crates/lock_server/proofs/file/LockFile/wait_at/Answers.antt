@@ -1,13 +1,6 @@
-use Rattle.std.proofs.Common.{◌≡◌, ◌∙◌, Some, sym, subst, arith}
-use Rattle.std.specs.Prelude.{slice_get}
-use Rattle.std.proofs.lemmas.Grind.{common_steps}
-use Rattle.std.proofs.lemmas.Option.{same_Some, slice_get_cases, slice_get_within}
-use Rattle.lock_server.specs.declared.Pending.{Pending}
-use Rattle.lock_server.specs.FileView.{file_state}
-use Rattle.lock_server.specs.Settling.{IsWaitBlocked}
+use Rattle.lock_server.proofs.Common.{◌≡◌, ◌∙◌, Some, sym, subst, arith, slice_get, common_steps, same_Some, slice_get_cases, slice_get_within, Pending, file_state, IsWaitBlocked, take}
 use Rattle.lock_server.proofs.GrantLemmas.{range_at}
 use Rattle.lock_server.proofs.ListingLemmas.{never_free}
-use Rattle.std.proofs.Common.{take}
 use Rattle.lock_server.proofs.file.LockFile.wait_at.Goals as goal
 
 pub obstacle-requires : goal.obstacle-requires

@@ -1,7 +1,5 @@
-use Rattle.std.proofs.Common.{◌≡◌, ◌∙◌, true, false, sym, subst}
-use Rattle.std.specs.Prelude.{◌↔◌, Any, Bool, IsTrue}
-use Rattle.lock_server.specs.FileView.{file_state}
-use Rattle.lock_server.specs.Pendings.{is_flock_wait}
+use Rattle.lock_server.proofs.Common.{◌≡◌, ◌∙◌, true, false, sym, subst, ◌↔◌, IsTrue, file_state, is_flock_wait}
+use Rattle.std.specs.Prelude.{Any, Bool}
 use Rattle.lock_server.proofs.PlaceFromLemmas.{any_passes}
 use Rattle.lock_server.proofs.file.LockFile.waits_for_flock.Goals as goal
 

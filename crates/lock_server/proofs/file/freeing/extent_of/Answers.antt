@@ -1,5 +1,4 @@
-use Rattle.std.proofs.Common.{arith, ◌-◌, length, sym}
-use Rattle.range_core.specs.Changes.{modes_of}
+use Rattle.lock_server.proofs.Common.{arith, ◌-◌, length, sym, modes_of}
 use Rattle.lock_server.proofs.ExtentLemmas.{beyond_runs, if_none, without_runs}
 use Rattle.lock_server.proofs.file.freeing.extent_of.Goals as goal
 

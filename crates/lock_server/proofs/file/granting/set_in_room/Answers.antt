@@ -1,5 +1,4 @@
-use Rattle.std.proofs.Common.{arith}
-use Rattle.lock_book.specs.declared.Owner.TheVariants.{Description}
+use Rattle.lock_server.proofs.Common.{arith, Description}
 use Rattle.lock_server.proofs.GrantLemmas.{from_ok, sets_behind_room}
 use Rattle.lock_server.proofs.file.granting.set_in_room.Goals as goal
 

@@ -1,5 +1,4 @@
-use Rattle.std.proofs.Common.{◌+◌, ◌-◌}
-use Rattle.range_core.specs.Changes.{modes_of}
+use Rattle.lock_server.proofs.Common.{◌+◌, ◌-◌, modes_of}
 use Rattle.lock_server.proofs.HavingLemmas.{HasBelow}
 use Rattle.lock_server.proofs.file.having.first_lacking.Given as goal
 

@@ -1,4 +1,4 @@
-use Rattle.range_core.specs.Changes.{modes_of}
+use Rattle.lock_server.proofs.Common.{modes_of}
 use Rattle.lock_server.proofs.HavingLemmas.{none_lacking}
 use Rattle.lock_server.proofs.file.having.has_throughout.Goals as goal
 

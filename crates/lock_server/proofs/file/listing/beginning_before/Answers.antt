@@ -1,7 +1,6 @@
-use Rattle.std.proofs.Common.{ltb, ltb-true, ltb-false, rules}
+use Rattle.lock_server.proofs.Common.{rules, Mode, Span}
+use Rattle.std.proofs.Common.{ltb, ltb-true, ltb-false}
 use Rattle.std.proofs.lemmas.List.Sorted.{IsPartitionPoint-from_clause, IsPartitionedBy-ltb}
-use Rattle.range_core.specs.declared.Mode.{Mode}
-use Rattle.range_core.specs.declared.Span.{Span}
 use Rattle.lock_server.proofs.file.listing.beginning_before.Goals as goal
 
 pub returns : goal.returns

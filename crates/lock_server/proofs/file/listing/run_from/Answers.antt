@@ -1,6 +1,4 @@
-use Rattle.std.proofs.Common.{◌≡◌, ◌≤◌, ◌<◌, arith, get_or, length}
-use Rattle.std.proofs.lemmas.Grind.{common_steps}
-use Rattle.range_core.specs.Changes.{modes_of}
+use Rattle.lock_server.proofs.Common.{◌≡◌, ◌≤◌, ◌<◌, arith, get_or, length, common_steps, modes_of}
 use Rattle.lock_server.proofs.RunLemmas.{all_before, first_there, firsts_rise}
 use Rattle.lock_server.proofs.file.listing.run_from.Goals as goal
 

@@ -1,6 +1,4 @@
-use Rattle.std.proofs.Common.{sym, subst}
-use Rattle.wait_core.specs.declared.Policy.{Policy}
-use Rattle.lock_server.specs.declared.freed.Freed.TheVariants.{Nobody}
+use Rattle.lock_server.proofs.Common.{sym, subst, Policy, Nobody}
 use Rattle.lock_server.specs.Freed.{LeavingFrees}
 use Rattle.lock_server.proofs.FreedLemmas.{leaving_frees_nobody, leaving_frees_there}
 use Rattle.lock_server.proofs.freed.Freed.by_leaving.Goals as goal

@@ -1,4 +1,4 @@
-use Rattle.std.proofs.Common.{[]}
+use Rattle.lock_server.proofs.Common.{[]}
 use Rattle.lock_server.proofs.FreedLemmas.{any_but}
 use Rattle.lock_server.proofs.freed.Known.nothing.Goals as goal
 

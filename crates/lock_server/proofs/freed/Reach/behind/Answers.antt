@@ -1,4 +1,4 @@
-use Rattle.lock_server.specs.declared.freed.Freed.TheVariants.{Meeting}
+use Rattle.lock_server.proofs.Common.{Meeting}
 use Rattle.lock_server.proofs.FreedLemmas.{any_behind, barred_behind, beyond_behind}
 use Rattle.lock_server.proofs.freed.Reach.behind.Goals as goal
 

@@ -1,4 +1,4 @@
-use Rattle.std.proofs.Common.{◌≤◌}
+use Rattle.lock_server.proofs.Common.{◌≤◌}
 use Rattle.lock_server.proofs.holdings.Holdings.are_few.Given as goal
 
 abbrev pub invariant-loop-owner : goal.invariant-loop-owner

@@ -1,5 +1,5 @@
 -- what is entered is there, and all else stays
-use Rattle.lock_server.specs.HoldingsView.{keeps}
+use Rattle.lock_server.proofs.Common.{keeps}
 use Rattle.lock_server.proofs.PairLemmas.{pair_elsewhere, pair_of_other}
 use Rattle.lock_server.proofs.holdings.Holdings.enter.Goals as goal
 

@@ -1,8 +1,4 @@
-use Rattle.std.proofs.Common.{arith}
-use Rattle.lock_server.specs.Holding.{HasNothing}
-use Rattle.lock_server.specs.HoldingsView.{EntersOn}
-use Rattle.lock_server.specs.Listing.{number_behind}
-use Rattle.lock_server.specs.TableView.{table_state}
+use Rattle.lock_server.proofs.Common.{arith, HasNothing, EntersOn, number_behind, table_state}
 use Rattle.lock_server.proofs.CollectedLemmas.{files_entered, files_more, files_none, not_before}
 use Rattle.lock_server.proofs.ForgetLemmas.{above_from_next, next_from_above}
 use Rattle.lock_server.proofs.HoldingLemmas.{untouched_nothing}

@@ -1,7 +1,4 @@
-use Rattle.std.proofs.Common.{◌-◌, ◌^◌}
-use Rattle.lock_server.specs.Holding.{HasNothing}
-use Rattle.lock_server.specs.Listing.{number_behind}
-use Rattle.lock_server.specs.TableView.{table_state}
+use Rattle.lock_server.proofs.Common.{◌-◌, ◌^◌, HasNothing, number_behind, table_state}
 use Rattle.lock_server.proofs.CollectedLemmas.{IsEnteringFiles}
 use Rattle.lock_server.proofs.holdings.Holdings.enter_holders.Given as goal
 

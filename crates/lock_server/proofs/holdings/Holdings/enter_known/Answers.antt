@@ -1,7 +1,4 @@
-use Rattle.std.proofs.Common.{arith}
-use Rattle.lock_server.specs.Holding.{HasNoLock}
-use Rattle.lock_server.specs.Listing.{number_behind}
-use Rattle.lock_server.specs.TableView.{table_state}
+use Rattle.lock_server.proofs.Common.{arith, HasNoLock, number_behind, table_state}
 use Rattle.lock_server.proofs.CollectedLemmas.{all_entered, entering_more, entering_none}
 use Rattle.lock_server.proofs.holdings.Holdings.enter_known.Goals as goal
 

@@ -1,8 +1,5 @@
-use Rattle.std.proofs.Common.{◌-◌, ◌^◌}
-use Rattle.lock_server.specs.Holding.{HasNoLock}
-use Rattle.lock_server.specs.TableView.{table_state}
+use Rattle.lock_server.proofs.Common.{◌-◌, ◌^◌, HasNoLock, table_state, number_behind}
 use Rattle.lock_server.proofs.CollectedLemmas.{IsEntering}
-use Rattle.lock_server.specs.Listing.{number_behind}
 use Rattle.lock_server.proofs.holdings.Holdings.enter_known.Given as goal
 
 abbrev pub invariant-loop-owner : goal.invariant-loop-owner

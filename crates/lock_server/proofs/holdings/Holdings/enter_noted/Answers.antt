@@ -1,6 +1,4 @@
-use Rattle.std.proofs.Common.{arith, ◌≡◌, None}
-use Rattle.lock_server.specs.Listing.{number_behind}
-use Rattle.lock_server.specs.OpeningsView.{through_at}
+use Rattle.lock_server.proofs.Common.{arith, ◌≡◌, None, number_behind, through_at}
 use Rattle.lock_server.proofs.CollectedLemmas.{files_entered, files_more, files_none}
 use Rattle.lock_server.proofs.ForgetLemmas.{above_from_next, next_from_above}
 use Rattle.lock_server.proofs.holdings.Holdings.enter_noted.Goals as goal

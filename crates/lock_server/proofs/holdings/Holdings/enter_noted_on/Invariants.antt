@@ -1,6 +1,4 @@
-use Rattle.std.proofs.Common.{◌≡◌, ◌-◌, ◌^◌, None}
-use Rattle.lock_server.specs.Listing.{number_behind}
-use Rattle.lock_server.specs.OpeningsView.{through_at}
+use Rattle.lock_server.proofs.Common.{◌≡◌, ◌-◌, ◌^◌, None, number_behind, through_at}
 use Rattle.lock_server.proofs.CollectedLemmas.{IsEntering}
 use Rattle.lock_server.proofs.holdings.Holdings.enter_noted_on.Given as goal
 

@@ -1,10 +1,4 @@
-use Rattle.std.proofs.Common.{◌≡◌, ◌≤◌, ◌∙◌, true, Some, length, sym, subst, arith}
-use Rattle.std.specs.Prelude.{slice_get}
-use Rattle.std.proofs.lemmas.Grind.{common_steps}
-use Rattle.std.proofs.lemmas.Option.{get_or_from_slice_get, slice_get_cases, slice_get_within}
-use Rattle.lock_server.specs.declared.Pending.{Pending}
-use Rattle.lock_server.specs.HoldingsView.{Keeps}
-use Rattle.lock_server.specs.TableView.{table_state}
+use Rattle.lock_server.proofs.Common.{◌≡◌, ◌≤◌, ◌∙◌, true, Some, length, sym, subst, arith, slice_get, common_steps, get_or_from_slice_get, slice_get_cases, slice_get_within, Pending, Keeps, table_state}
 use Rattle.lock_server.proofs.CollectedLemmas.{waiting_all, waiting_more, waiting_none}
 use Rattle.lock_server.proofs.holdings.Holdings.enter_waiting.Goals as goal
 

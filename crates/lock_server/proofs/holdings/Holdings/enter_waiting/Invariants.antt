@@ -1,7 +1,4 @@
-use Rattle.std.proofs.Common.{◌-◌, length, take}
-use Rattle.lock_server.specs.Holding.{AreOfOthers}
-use Rattle.lock_server.specs.HoldingsView.{EntersOn}
-use Rattle.lock_server.specs.TableView.{table_state}
+use Rattle.lock_server.proofs.Common.{◌-◌, length, take, AreOfOthers, EntersOn, table_state}
 use Rattle.lock_server.proofs.holdings.Holdings.enter_waiting.Given as goal
 
 abbrev pub invariant-loop-wait : goal.invariant-loop-wait

@@ -1,4 +1,4 @@
-use Rattle.lock_server.specs.HoldingsView.{keeps}
+use Rattle.lock_server.proofs.Common.{keeps}
 use Rattle.lock_server.proofs.PairLemmas.{pair_elsewhere, pair_of_other}
 use Rattle.lock_server.proofs.holdings.Holdings.leave.Goals as goal
 

@@ -1,9 +1,4 @@
-use Rattle.std.proofs.Common.{arith, ℕ, ◌≡◌, ◌≢◌, ◌≤◌, ◌∙◌, sym, ap, subst, refl, true, false, None}
-use Rattle.std.specs.BTreeMap.Range.{IsFromStart}
-use Rattle.std.specs.declared.ops.Bound.{Bound}
-use Rattle.lock_server.specs.Clients.{is_within}
-use Rattle.lock_server.specs.HoldingsView.{keeps, pair_cmp}
-use Rattle.lock_server.specs.OpeningsView.{through_at}
+use Rattle.lock_server.proofs.Common.{arith, ℕ, ◌≡◌, ◌≢◌, ◌≤◌, ◌∙◌, sym, ap, subst, refl, true, false, None, IsFromStart, Bound, is_within, keeps, pair_cmp, through_at}
 use Rattle.lock_server.proofs.HoldingLemmas.{noted_left, seen_without, sees_of_others}
 use Rattle.lock_server.proofs.PairLemmas.{from_owner, owner_behind, owner_upto, untrue, within_first, within_is, within_last}
 use Rattle.lock_server.proofs.holdings.Holdings.leave_all.Goals as goal

@@ -1,7 +1,5 @@
-use Rattle.std.proofs.Common.{◌≡◌, ℕ, None, false}
-use Rattle.lock_server.specs.Clients.{is_within}
-use Rattle.lock_server.specs.HoldingsView.{keeps, size}
-use Rattle.lock_server.specs.OpeningsView.{through_at}
+use Rattle.lock_server.proofs.Common.{◌≡◌, ℕ, None, false, is_within, keeps, through_at}
+use Rattle.lock_server.specs.HoldingsView.{size}
 use Rattle.lock_server.proofs.holdings.Holdings.leave_all.Given as goal
 
 -- no other owner has left, and whoever isn't kept with a file isn't noted there

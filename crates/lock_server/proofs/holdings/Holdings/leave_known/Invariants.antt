@@ -1,6 +1,4 @@
-use Rattle.std.proofs.Common.{◌-◌, ◌^◌}
-use Rattle.lock_server.specs.HoldingsView.{LeavesFile}
-use Rattle.lock_server.specs.Listing.{number_behind}
+use Rattle.lock_server.proofs.Common.{◌-◌, ◌^◌, LeavesFile, number_behind}
 use Rattle.lock_server.proofs.holdings.Holdings.leave_known.Given as goal
 
 abbrev pub invariant-loop-owner : goal.invariant-loop-owner

@@ -1,4 +1,4 @@
-use Rattle.std.proofs.Common.{arith}
+use Rattle.lock_server.proofs.Common.{arith}
 use Rattle.lock_server.proofs.CollectedLemmas.{leaves_more, leaves_none}
 use Rattle.lock_server.proofs.ForgetLemmas.{next_from_above}
 use Rattle.lock_server.proofs.holdings.Holdings.leave_noted.Goals as goal

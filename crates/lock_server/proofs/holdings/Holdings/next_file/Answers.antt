@@ -1,7 +1,4 @@
-use Rattle.std.proofs.Common.{arith, ℕ, sym, subst}
-use Rattle.lock_server.specs.HoldingsView.{keeps, pair_cmp}
-use Rattle.std.specs.BTreeMap.Range.{IsFromStart}
-use Rattle.std.specs.declared.ops.Bound.{Bound}
+use Rattle.lock_server.proofs.Common.{arith, ℕ, sym, subst, keeps, pair_cmp, IsFromStart, Bound}
 use Rattle.lock_server.proofs.PairLemmas.{owner_behind, owner_upto, pair_behind, untrue}
 use Rattle.lock_server.proofs.holdings.Holdings.next_file.Goals as goal
 

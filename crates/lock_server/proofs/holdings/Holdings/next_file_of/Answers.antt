@@ -1,5 +1,4 @@
-use Rattle.std.proofs.Common.{arith}
-use Rattle.lock_server.specs.Listing.{number_behind}
+use Rattle.lock_server.proofs.Common.{arith, number_behind}
 use Rattle.lock_server.proofs.HolderLemmas.{least_all, least_more, least_none, least_told, none_told, own_unkept}
 use Rattle.lock_server.proofs.holdings.Holdings.next_file_of.Goals as goal
 

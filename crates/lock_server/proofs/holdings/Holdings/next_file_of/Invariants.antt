@@ -1,5 +1,4 @@
-use Rattle.std.proofs.Common.{◌-◌, ◌^◌}
-use Rattle.lock_server.specs.Listing.{number_behind}
+use Rattle.lock_server.proofs.Common.{◌-◌, ◌^◌, number_behind}
 use Rattle.lock_server.proofs.HolderLemmas.{IsLeastFile}
 use Rattle.lock_server.proofs.holdings.Holdings.next_file_of.Given as goal
 

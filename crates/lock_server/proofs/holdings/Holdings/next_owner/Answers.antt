@@ -1,9 +1,4 @@
-use Rattle.std.proofs.Common.{arith, ℕ, ◌≡◌, ◌≤◌, Option, false, sym, subst}
-use Rattle.std.specs.Prelude.{IfNone}
-use Rattle.std.specs.BTreeMap.Range.{IsFromStart}
-use Rattle.std.specs.declared.ops.Bound.{Bound}
-use Rattle.lock_server.specs.HoldingsView.{keeps, pair_cmp}
-use Rattle.lock_server.specs.Listing.{number_behind}
+use Rattle.lock_server.proofs.Common.{arith, ℕ, ◌≡◌, ◌≤◌, Option, false, sym, subst, IfNone, IsFromStart, Bound, keeps, pair_cmp, number_behind}
 use Rattle.lock_server.proofs.PairLemmas.{from_behind_owner, owner_upto, untrue}
 use Rattle.lock_server.proofs.holdings.Holdings.next_owner.Goals as goal
 

@@ -1,8 +1,5 @@
-use Rattle.std.proofs.Common.{◌≡◌, ℕ, Option, false, List, subst, sym}
-use Rattle.std.specs.Prelude.{IfNone, IfSome, slice_get}
-use Rattle.std.specs.BTreeSet.{contains}
-use Rattle.std.specs.BTreeMap.Range.{IsFromStart, IsLeBy}
-use Rattle.lock_server.specs.HoldingsView.{pair_cmp}
+use Rattle.lock_server.proofs.Common.{◌≡◌, ℕ, Option, false, List, subst, sym, IfNone, IfSome, slice_get, contains, IsFromStart, pair_cmp}
+use Rattle.std.specs.BTreeMap.Range.{IsLeBy}
 use Rattle.lock_server.proofs.holdings.Holdings.next_pair.Goals as goal
 
 pub returns-in_err-next-clause-none : goal.returns-in_err-next-clause-none

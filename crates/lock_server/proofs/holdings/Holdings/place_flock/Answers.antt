@@ -1,5 +1,4 @@
-use Rattle.lock_server.specs.OpeningsView.{through_at}
-use Rattle.lock_server.specs.TableView.{table_state}
+use Rattle.lock_server.proofs.Common.{through_at, table_state}
 use Rattle.lock_server.proofs.HoldingLemmas.{kept_entered, kept_held, kept_same, kept_tidied}
 use Rattle.lock_server.proofs.holdings.Holdings.place_flock.Goals as goal
 

@@ -1,4 +1,4 @@
-use Rattle.std.proofs.Common.{◌∙◌}
+use Rattle.lock_server.proofs.Common.{◌∙◌}
 use Rattle.lock_server.specs.declared.hull.Hull.{Hull}
 use Rattle.lock_server.proofs.AskingLemmas.{are_within, within_both}
 use Rattle.lock_server.proofs.hull.HullSummaryPending.append.Goals as goal

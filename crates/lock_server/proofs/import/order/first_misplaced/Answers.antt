@@ -1,5 +1,4 @@
-use Rattle.std.proofs.Common.{◌≡◌, ◌<◌, ◌-◌, ◌∙◌, arith, false, true, get_or, subst, sym}
-use Rattle.std.proofs.lemmas.List.{get_or_default}
+use Rattle.lock_server.proofs.Common.{◌≡◌, ◌<◌, ◌-◌, ◌∙◌, arith, false, true, get_or, subst, sym, get_or_default}
 use Rattle.lock_server.proofs.import.order.first_misplaced.Goals as goal
 
 pub returns-then-not-is_before : goal.returns-then-not-is_before

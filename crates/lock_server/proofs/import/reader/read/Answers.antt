@@ -1,6 +1,5 @@
-use Rattle.std.proofs.Common.{ℕ, ◌≡◌, ◌==◌, ◌∙◌, List, [], ap, append-nil, arith, false, length, sym, true}
-use Rattle.std.proofs.lemmas.Grind.{common_steps}
-use Rattle.lock_server.specs.Reading.{told_by, told_words}
+use Rattle.lock_server.proofs.Common.{ℕ, ◌≡◌, ◌==◌, ◌∙◌, List, [], ap, append-nil, arith, false, length, sym, true, common_steps, told_by}
+use Rattle.lock_server.specs.Reading.{told_words}
 use Rattle.lock_server.proofs.ReaderLemmas.{fails, whole_words}
 use Rattle.lock_server.proofs.import.reader.read.Goals as goal
 use Rattle.lock_server.proofs.import.reader.read.Goals.{else-is_empty-via-then-is_empty+else-bytes-eq0, else-is_empty-via-else-is_empty}

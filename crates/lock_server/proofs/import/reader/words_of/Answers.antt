@@ -1,5 +1,4 @@
-use Rattle.std.proofs.Common.{ℕ, ◌≡◌, ◌≤◌, ◌∙◌, ◌++◌, ◌∷◌, [], List, ap, arith, length, refl, subst, sym}
-use Rattle.std.specs.Int.{from_le_bytes, w64}
+use Rattle.lock_server.proofs.Common.{ℕ, ◌≡◌, ◌≤◌, ◌∙◌, ◌++◌, ◌∷◌, [], List, ap, arith, length, refl, subst, sym, from_le_bytes, w64}
 use Rattle.lock_server.proofs.ReaderLemmas.{IsWordsTo, words_all, words_more}
 use Rattle.lock_server.proofs.import.reader.words_of.Goals as goal
 

@@ -1,4 +1,4 @@
-use Rattle.std.proofs.Common.{length}
+use Rattle.lock_server.proofs.Common.{length}
 use Rattle.lock_server.proofs.ReaderLemmas.{AreWordsTo}
 use Rattle.lock_server.proofs.import.reader.words_of.Given as goal
 

@@ -1,6 +1,4 @@
-use Rattle.std.proofs.Common.{arith, refl}
-use Rattle.lock_server.specs.Bytes.{note_words}
-use Rattle.lock_server.specs.Inventory.{AreJust, note_place}
+use Rattle.lock_server.proofs.Common.{arith, refl, note_words, AreJust, note_place}
 use Rattle.lock_server.proofs.ExportLemmas.{IsNoted}
 use Rattle.lock_server.proofs.JustLemmas.{just_alone}
 use Rattle.lock_server.proofs.WordLemmas.{counted}

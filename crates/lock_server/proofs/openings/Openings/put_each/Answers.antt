@@ -1,9 +1,4 @@
-use Rattle.std.proofs.Common.{◌≡◌, Some}
-use Rattle.std.specs.BTreeMap.{get}
-use Rattle.std.specs.Map.Iter.{deref_pair}
-use Rattle.std.specs.Ordering.{nat_cmp}
-use Rattle.std.proofs.lemmas.Map.Iter.{iter_end}
-use Rattle.lock_server.specs.Bytes.{note_words}
+use Rattle.lock_server.proofs.Common.{◌≡◌, Some, get, deref_pair, nat_cmp, iter_end, note_words}
 use Rattle.lock_server.proofs.ExportLemmas.{IsNotedPiece, all_noted, noted_piece}
 use Rattle.lock_server.proofs.WalkLemmas.{next_entry, walked_more, walked_none}
 use Rattle.lock_server.proofs.openings.Openings.put_each.Goals as goal

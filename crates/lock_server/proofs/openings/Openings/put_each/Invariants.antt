@@ -1,4 +1,4 @@
-use Rattle.lock_server.specs.Bytes.{note_words}
+use Rattle.lock_server.proofs.Common.{note_words}
 use Rattle.lock_server.proofs.ExportLemmas.{IsNotedPiece}
 use Rattle.lock_server.proofs.WalkLemmas.{Walked}
 use Rattle.lock_server.proofs.openings.Openings.put_each.Given as goal

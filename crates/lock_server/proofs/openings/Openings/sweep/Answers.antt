@@ -1,9 +1,6 @@
-use Rattle.std.proofs.Common.{ℕ, ◌≡◌, ◌∙◌, ap, sym, true, false, None, Some, Option}
-use Rattle.std.specs.BTreeMap.{get}
-use Rattle.std.specs.Option.{option_copied}
-use Rattle.std.specs.Ordering.{nat_cmp}
+use Rattle.lock_server.proofs.Common.{ℕ, ◌≡◌, ◌∙◌, ap, sym, true, false, None, Some, Option, get, option_copied, nat_cmp, open_of, through_at}
 use Rattle.lock_server.specs.declared.openings.Seen.{Seen}
-use Rattle.lock_server.specs.OpeningsView.{open_in, open_of, through_at}
+use Rattle.lock_server.specs.OpeningsView.{open_in}
 use Rattle.lock_server.proofs.openings.Openings.sweep.Goals as goal
 
 pub returns-else-is_empty-clause-gone : goal.returns-else-is_empty-clause-gone

@@ -1,4 +1,4 @@
-use Rattle.lock_server.specs.OpeningsView.{open_of}
+use Rattle.lock_server.proofs.Common.{open_of}
 use Rattle.lock_server.proofs.OpeningsLemmas.{empty_if_unknown, unknown_if_empty}
 use Rattle.lock_server.proofs.openings.Seen.is_empty.Goals as goal
 

@@ -1,4 +1,4 @@
-use Rattle.lock_server.specs.Bytes.{note_words}
+use Rattle.lock_server.proofs.Common.{note_words}
 use Rattle.lock_server.proofs.ExportLemmas.{IsSeenPiece}
 use Rattle.lock_server.proofs.WalkLemmas.{Walked}
 use Rattle.lock_server.proofs.openings.Seen.put.Given as goal

@@ -1,5 +1,4 @@
-use Rattle.std.proofs.Common.{arith, refl}
-use Rattle.lock_server.specs.ServerView.{rules_of, state_of, through_of}
+use Rattle.lock_server.proofs.Common.{arith, refl, rules_of, state_of, through_of}
 use Rattle.lock_server.proofs.ExportLemmas.{size_told, sized_told}
 use Rattle.lock_server.proofs.server.LockServer.export.Goals as goal
 

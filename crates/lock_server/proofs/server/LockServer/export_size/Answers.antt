@@ -1,4 +1,4 @@
-use Rattle.lock_server.specs.ServerView.{rules_of, state_of, through_of}
+use Rattle.lock_server.proofs.Common.{rules_of, state_of, through_of}
 use Rattle.lock_server.proofs.ExportLemmas.{size_told}
 use Rattle.lock_server.proofs.server.LockServer.export_size.Goals as goal
 

@@ -1,9 +1,5 @@
-use Rattle.std.proofs.Common.{◌∙◌, sym, subst, Option}
-use Rattle.range_core.specs.declared.Mode.{Mode}
-use Rattle.lock_server.specs.Calls.{FlockOpComesTo, flock_request, no_ticket}
-use Rattle.lock_server.specs.OpeningsView.{through_at}
-use Rattle.lock_server.specs.ServerView.{rules_of, state_of}
-use Rattle.lock_server.specs.TableView.{table_state}
+use Rattle.lock_server.proofs.Common.{◌∙◌, sym, subst, Option, Mode, flock_request, no_ticket, through_at, rules_of, state_of, table_state}
+use Rattle.lock_server.specs.Calls.{FlockOpComesTo}
 use Rattle.lock_server.proofs.FlockLemmas.{apart_by_test, flock_from}
 use Rattle.lock_server.proofs.HoldingLemmas.{kept_flock, kept_tidied}
 use Rattle.lock_server.proofs.ServerLemmas.{safe_same}

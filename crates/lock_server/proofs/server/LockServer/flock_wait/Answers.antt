@@ -1,9 +1,4 @@
-use Rattle.std.proofs.Common.{◌∙◌, subst}
-use Rattle.lock_server.specs.declared.Pending.{Pending}
-use Rattle.lock_server.specs.Calls.{FlockWaitFrom, flock_request}
-use Rattle.lock_server.specs.OpeningsView.{through_at}
-use Rattle.lock_server.specs.ServerView.{rules_of, state_of}
-use Rattle.lock_server.specs.TableView.{table_state}
+use Rattle.lock_server.proofs.Common.{◌∙◌, subst, Pending, FlockWaitFrom, flock_request, through_at, rules_of, state_of, table_state}
 use Rattle.lock_server.proofs.FlockLemmas.{apart_by_test, flock_wait_from}
 use Rattle.lock_server.proofs.HoldingLemmas.{kept_flock_wait}
 use Rattle.lock_server.proofs.ServerLemmas.{safe_same}

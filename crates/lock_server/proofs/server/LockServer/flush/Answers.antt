@@ -1,9 +1,4 @@
-use Rattle.std.proofs.Common.{arith, ◌∙◌}
-use Rattle.std.proofs.lemmas.Grind.{common_steps}
-use Rattle.wait_core.specs.declared.Family.TheVariants.{Bytes}
-use Rattle.lock_server.specs.OpeningsView.{through_at}
-use Rattle.lock_server.specs.ServerView.{rules_of, state_of}
-use Rattle.lock_server.specs.TableView.{table_state}
+use Rattle.lock_server.proofs.Common.{arith, ◌∙◌, common_steps, Bytes, through_at, rules_of, state_of, table_state}
 use Rattle.lock_server.proofs.HoldingLemmas.{kept_moved, kept_rested, kept_tidied, kept_unseen, unseen_on}
 use Rattle.lock_server.proofs.SafeLemmas.{moves_released}
 use Rattle.lock_server.proofs.ServerLemmas.{releases_at_rest, safe_rested, swept}

@@ -1,8 +1,5 @@
-use Rattle.std.proofs.Common.{arith, ℕ, ◌<◌, ◌≤◌, ◌∙◌, inl, inr, ap, refl, subst, None}
-use Rattle.std.proofs.lemmas.Bool.{cases_eq, cases_lt}
-use Rattle.lock_server.specs.declared.Rules.{Rules}
+use Rattle.lock_server.proofs.Common.{arith, ℕ, ◌<◌, ◌≤◌, ◌∙◌, inl, inr, ap, refl, subst, None, cases_eq, cases_lt, Rules, rules_of, state_of, through_of}
 use Rattle.lock_server.specs.Holding.{ForgetsThere, IsGone}
-use Rattle.lock_server.specs.ServerView.{rules_of, state_of, through_of}
 use Rattle.lock_server.proofs.ForgetLemmas.{above_from_next, all_forgotten, forgetting_more, forgetting_none, next_from_above, next_of}
 use Rattle.lock_server.proofs.HoldingLemmas.{nothing_stranger, sees_of_others}
 use Rattle.lock_server.proofs.StateLemmas.{SameState-itself}

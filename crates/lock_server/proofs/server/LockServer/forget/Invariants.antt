@@ -1,5 +1,4 @@
-use Rattle.std.proofs.Common.{ℕ, ◌≡◌, ◌≢◌, ◌-◌, ◌<◌, ◌^◌, None}
-use Rattle.lock_server.specs.ServerView.{rules_of, state_of, through_of}
+use Rattle.lock_server.proofs.Common.{ℕ, ◌≡◌, ◌≢◌, ◌-◌, ◌<◌, ◌^◌, None, rules_of, state_of, through_of}
 use Rattle.lock_server.proofs.ForgetLemmas.{IsForgetting, next_of}
 use Rattle.lock_server.proofs.server.LockServer.forget.Given as goal
 

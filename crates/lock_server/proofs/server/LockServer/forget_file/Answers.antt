@@ -1,6 +1,4 @@
-use Rattle.std.proofs.Math.Logic.{∥∥₁_map}
-use Rattle.lock_server.specs.OpeningsView.{through_at}
-use Rattle.lock_server.specs.TableView.{table_state}
+use Rattle.lock_server.proofs.Common.{∥∥₁_map, through_at, table_state}
 use Rattle.lock_server.proofs.HoldingLemmas.{kept_file_forgotten}
 use Rattle.lock_server.proofs.SafeClientLemmas.{safe_file_forgotten}
 use Rattle.lock_server.proofs.SweptLemmas.{all_swept_but}

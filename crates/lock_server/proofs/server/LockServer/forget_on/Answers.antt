@@ -1,7 +1,4 @@
-use Rattle.std.proofs.Common.{◌∙◌}
-use Rattle.lock_server.specs.OpeningsView.{through_at}
-use Rattle.lock_server.specs.ServerView.{rules_of, state_of}
-use Rattle.lock_server.specs.TableView.{table_state}
+use Rattle.lock_server.proofs.Common.{◌∙◌, through_at, rules_of, state_of, table_state}
 use Rattle.lock_server.proofs.HoldingLemmas.{kept_moved, kept_rested, kept_tidied, kept_unseen, unseen_on}
 use Rattle.lock_server.proofs.SafeLemmas.{moves_forgotten}
 use Rattle.lock_server.proofs.ServerLemmas.{safe_rested, swept}

@@ -1,7 +1,4 @@
-use Rattle.std.proofs.Common.{◌≡◌, arith, refl, inl, inr, subst, ℕ, true, false}
-use Rattle.std.proofs.lemmas.Bool.{cases_eq, cases_lt}
-use Rattle.lock_server.specs.Clients.{HaveLocksOn}
-use Rattle.lock_server.specs.ServerView.{state_of}
+use Rattle.lock_server.proofs.Common.{◌≡◌, arith, refl, inl, inr, subst, ℕ, true, false, cases_eq, cases_lt, HaveLocksOn, state_of}
 use Rattle.lock_server.proofs.ForgetLemmas.{above_from_next, next_from_above, next_of}
 use Rattle.lock_server.proofs.HolderLemmas.{nothing_no_lock}
 use Rattle.lock_server.proofs.server.LockServer.has_lock.Goals as goal

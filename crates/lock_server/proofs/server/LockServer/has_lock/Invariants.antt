@@ -1,6 +1,4 @@
-use Rattle.std.proofs.Common.{ℕ, ◌-◌, ◌^◌, ◌<◌}
-use Rattle.lock_server.specs.Clients.{HaveLocksOn}
-use Rattle.lock_server.specs.ServerView.{state_of}
+use Rattle.lock_server.proofs.Common.{ℕ, ◌-◌, ◌^◌, ◌<◌, HaveLocksOn, state_of}
 use Rattle.lock_server.proofs.ForgetLemmas.{next_of}
 use Rattle.lock_server.proofs.server.LockServer.has_lock.Given as goal
 

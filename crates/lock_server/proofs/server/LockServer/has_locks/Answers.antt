@@ -1,7 +1,4 @@
-use Rattle.std.proofs.Common.{◌≡◌, arith, refl, ℕ, true, false}
-use Rattle.lock_server.specs.Clients.{HaveLocks}
-use Rattle.lock_server.specs.Listing.{number_behind}
-use Rattle.lock_server.specs.ServerView.{state_of}
+use Rattle.lock_server.proofs.Common.{◌≡◌, arith, refl, ℕ, true, false, HaveLocks, number_behind, state_of}
 use Rattle.lock_server.proofs.HasLockLemmas.{is_one, none_first, none_more, none_within}
 use Rattle.lock_server.proofs.HolderLemmas.{have_locks_one, nothing_no_lock, one_has_locks}
 use Rattle.lock_server.proofs.server.LockServer.has_locks.Goals as goal

@@ -1,7 +1,4 @@
-use Rattle.std.proofs.Common.{ℕ, ◌-◌, ◌^◌}
-use Rattle.lock_server.specs.Clients.{HaveLocks}
-use Rattle.lock_server.specs.Listing.{number_behind}
-use Rattle.lock_server.specs.ServerView.{state_of}
+use Rattle.lock_server.proofs.Common.{ℕ, ◌-◌, ◌^◌, HaveLocks, number_behind, state_of}
 use Rattle.lock_server.proofs.HasLockLemmas.{NoneBelow}
 use Rattle.lock_server.proofs.server.LockServer.has_locks.Given as goal
 

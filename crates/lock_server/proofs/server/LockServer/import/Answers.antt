@@ -1,11 +1,4 @@
-use Rattle.std.proofs.Common.{◌≡◌, ◌∙◌, false, sym, true}
-use mathlib.Core.HLevel.{⊥_prop}
-use Rattle.std.proofs.Math.Logic.{∥∥₁_elim}
-use Rattle.lock_server.specs.OpeningsView.{through_at}
-use Rattle.lock_server.specs.Reading.{Always, told_by}
-use Rattle.lock_server.specs.ServerView.{rules_of, state_of, through_of}
-use Rattle.lock_server.specs.States.{SameState}
-use Rattle.lock_server.specs.TableView.{table_state}
+use Rattle.lock_server.proofs.Common.{◌≡◌, ◌∙◌, false, sym, true, ⊥_prop, ∥∥₁_elim, through_at, Always, told_by, rules_of, state_of, through_of, SameState, table_state}
 use Rattle.lock_server.proofs.CompleteLemmas.{are_of, made_has, may_be_told, notes_told, ordered, refutes, refutes_wanting, told_of}
 use Rattle.lock_server.proofs.server.LockServer.import.Goals as goal
 

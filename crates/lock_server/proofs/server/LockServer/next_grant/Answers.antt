@@ -1,5 +1,4 @@
-use Rattle.lock_server.specs.OpeningsView.{through_at}
-use Rattle.lock_server.specs.TableView.{table_state}
+use Rattle.lock_server.proofs.Common.{through_at, table_state}
 use Rattle.lock_server.proofs.HoldingLemmas.{kept_fetched}
 use Rattle.lock_server.proofs.ServerLemmas.{safe_after_fetch}
 use Rattle.lock_server.proofs.SweptLemmas.{all_swept}

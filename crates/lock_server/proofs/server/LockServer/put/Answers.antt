@@ -1,4 +1,4 @@
-use Rattle.lock_server.specs.ServerView.{rules_of, state_of, through_of}
+use Rattle.lock_server.proofs.Common.{rules_of, state_of, through_of}
 use Rattle.lock_server.proofs.ExportLemmas.{inventory_put}
 use Rattle.lock_server.proofs.server.LockServer.put.Goals as goal
 

@@ -1,8 +1,5 @@
-use Rattle.std.proofs.Common.{◌∙◌, false}
+use Rattle.lock_server.proofs.Common.{◌∙◌, false, through_at, rules_of, state_of, through_of, table_state}
 use Rattle.lock_server.specs.Closing.{is_through}
-use Rattle.lock_server.specs.OpeningsView.{through_at}
-use Rattle.lock_server.specs.ServerView.{rules_of, state_of, through_of}
-use Rattle.lock_server.specs.TableView.{table_state}
 use Rattle.lock_server.proofs.ClosingLemmas.{closes_then, moves_closed}
 use Rattle.lock_server.proofs.HoldingLemmas.{kept_moved, kept_rested, kept_tidied_if}
 use Rattle.lock_server.proofs.ServerLemmas.{safe_rested, swept}

@@ -1,9 +1,4 @@
-use Rattle.std.proofs.Common.{◌∙◌}
-use Rattle.wait_core.specs.declared.Family.TheVariants.{Bytes}
-use Rattle.lock_server.specs.Calls.{given_by}
-use Rattle.lock_server.specs.OpeningsView.{through_at}
-use Rattle.lock_server.specs.ServerView.{rules_of, state_of}
-use Rattle.lock_server.specs.TableView.{table_state}
+use Rattle.lock_server.proofs.Common.{◌∙◌, Bytes, given_by, through_at, rules_of, state_of, table_state}
 use Rattle.lock_server.proofs.HoldingLemmas.{kept_rested, kept_tidied}
 use Rattle.lock_server.proofs.ServerLemmas.{changes_at_rest, moves_set, safe_rested, safe_same, set_done, swept}
 use Rattle.lock_server.proofs.SweptLemmas.{all_swept_but}

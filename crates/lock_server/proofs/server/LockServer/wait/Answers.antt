@@ -1,13 +1,5 @@
-use Rattle.std.proofs.Common.{◌∙◌, inl, inr, refl, subst, sym, Some, [], ◌∷◌}
-use Rattle.wait_core.specs.declared.Family.TheVariants.{Bytes}
-use Rattle.lock_server.specs.declared.Pending.{Pending}
+use Rattle.lock_server.proofs.Common.{◌∙◌, inl, inr, refl, subst, sym, Some, [], ◌∷◌, Bytes, Pending, IsRefused, Suspends, WaitComesTo, byte_request, through_at, rules_of, state_of, IsWaitBlocked, State, table_state}
 use Rattle.lock_server.specs.declared.WaitAnswer.TheVariants as told
-use Rattle.lock_server.specs.Calls.{IsRefused, Suspends, WaitComesTo, byte_request}
-use Rattle.lock_server.specs.OpeningsView.{through_at}
-use Rattle.lock_server.specs.ServerView.{rules_of, state_of}
-use Rattle.lock_server.specs.Settling.{IsWaitBlocked}
-use Rattle.lock_server.specs.States.{State}
-use Rattle.lock_server.specs.TableView.{table_state}
 use Rattle.lock_server.proofs.CompatibleLemmas.{free_from_open}
 use Rattle.lock_server.proofs.HoldingLemmas.{kept_joined, kept_rested}
 use Rattle.lock_server.proofs.SafeLemmas.{moves_given}

@@ -1,4 +1,4 @@
-use Rattle.std.proofs.Math.Logic.{∥∥₁_map}
+use Rattle.lock_server.proofs.Common.{∥∥₁_map}
 use Rattle.lock_server.proofs.server.LockServer.wait_at.Goals as goal
 
 pub wait_at-requires : goal.wait_at-requires

@@ -1,9 +1,4 @@
-use Rattle.std.proofs.Common.{◌≡◌, Any, sym, subst, take}
-use Rattle.std.specs.Prelude.{OnOk}
-use Rattle.wait_core.specs.Blocking.{WaitsConflict}
-use Rattle.lock_server.specs.Blockers.{AddsOwners}
-use Rattle.lock_server.specs.Files.{FileState}
-use Rattle.lock_server.specs.Pendings.{as_wait}
+use Rattle.lock_server.proofs.Common.{◌≡◌, Any, sym, subst, take, OnOk, WaitsConflict, AddsOwners, FileState, as_wait}
 use Rattle.lock_server.proofs.TableLemmas.{found_state}
 use Rattle.lock_server.proofs.table.Table.add_conflicting.Goals as goal
 

@@ -1,5 +1,4 @@
-use Rattle.std.proofs.Common.{◌≡◌, ◌∙◌, true, false}
-use Rattle.std.proofs.lemmas.Option.{slice_get-get_or}
+use Rattle.lock_server.proofs.Common.{◌≡◌, ◌∙◌, true, false, slice_get-get_or}
 use Rattle.lock_server.proofs.ReachedLemmas.{added_all, added_once, added_skip}
 use Rattle.lock_server.proofs.table.Table.add_going_on.Goals as goal
 use Rattle.lock_server.proofs.table.Table.add_going_on.Goals.{then-goes_on+in_ok-add, else-goes_on}

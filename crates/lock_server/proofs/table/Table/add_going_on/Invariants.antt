@@ -1,4 +1,4 @@
-use Rattle.std.proofs.Common.{◌≡◌}
+use Rattle.lock_server.proofs.Common.{◌≡◌}
 use Rattle.lock_server.proofs.ReachedLemmas.{IsAddedBefore}
 use Rattle.lock_server.proofs.table.Table.add_going_on.Given as goal
 

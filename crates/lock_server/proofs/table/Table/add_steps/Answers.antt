@@ -1,10 +1,4 @@
-use Rattle.std.proofs.Common.{ℕ, get_or, sym, subst}
-use Rattle.std.proofs.lemmas.Option.{slice_get-get_or}
-use Rattle.lock_server.specs.Blockers.{AddsOwners}
-use Rattle.lock_server.specs.Deadlock.{WaitsForOn}
-use Rattle.lock_server.specs.Files.{FileState}
-use Rattle.lock_server.specs.Index.{state_in}
-use Rattle.lock_server.specs.TableView.{entry_of, table_state}
+use Rattle.lock_server.proofs.Common.{ℕ, get_or, sym, subst, slice_get-get_or, AddsOwners, WaitsForOn, FileState, state_in, entry_of, table_state}
 use Rattle.lock_server.proofs.GatheredOwnerLemmas.{gathered_more, gathered_skip}
 use Rattle.lock_server.proofs.ReachedLemmas.{all_files, no_step_there}
 use Rattle.lock_server.proofs.TableLemmas.{found_state, not_found_state}

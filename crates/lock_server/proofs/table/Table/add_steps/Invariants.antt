@@ -1,6 +1,4 @@
-use Rattle.lock_server.specs.Blockers.{AddsOwners}
-use Rattle.lock_server.specs.Deadlock.{WaitsForOn}
-use Rattle.lock_server.specs.Index.{state_in}
+use Rattle.lock_server.proofs.Common.{AddsOwners, WaitsForOn, state_in}
 use Rattle.lock_server.proofs.GatheredOwnerLemmas.{IsGivenBefore}
 use Rattle.lock_server.proofs.table.Table.add_steps.Given as goal
 

@@ -1,8 +1,4 @@
-use Rattle.std.proofs.Common.{arith, ℕ, ◌≡◌, ◌≢◌, ◌∙◌, inl, inr, refl, sym, ap, Some, None}
-use Rattle.std.proofs.lemmas.Grind.{common_steps}
-use Rattle.lock_server.specs.declared.tickets.Place.TheVariants.{Reserved, Waits, Granted}
-use Rattle.lock_server.specs.TableView.{entry_of, table_state}
-use Rattle.lock_server.specs.TicketsView.{place_at}
+use Rattle.lock_server.proofs.Common.{arith, ℕ, ◌≡◌, ◌≢◌, ◌∙◌, inl, inr, refl, sym, ap, Some, None, common_steps, Reserved, Waits, Granted, entry_of, table_state, place_at}
 use Rattle.lock_server.proofs.IndexLemmas.{file_written}
 use Rattle.lock_server.proofs.StateLemmas.{SameFile-itself}
 use Rattle.lock_server.proofs.EntryMoves.{leaves_by, left_changes, left_indexed, lent_of_wait, no_wait, not_pending, some_unless, wait_of_ticket}

@@ -1,6 +1,4 @@
-use Rattle.std.proofs.Common.{ℕ, ◌<◌, ◌≤◌, ◌∙◌, arith}
-use Rattle.lock_server.specs.Counting.{flock_locks_on, runs_on, waits_on}
-use Rattle.lock_server.specs.TableView.{table_state}
+use Rattle.lock_server.proofs.Common.{ℕ, ◌<◌, ◌≤◌, ◌∙◌, arith, flock_locks_on, runs_on, waits_on, table_state}
 use Rattle.lock_server.proofs.CountLemmas.{counting_file, counting_files_end, counting_no_file}
 use Rattle.lock_server.proofs.ForgetLemmas.{above_from_next, next_from_above, next_of}
 use Rattle.lock_server.proofs.HolderLemmas.{HaveNothing, flock_locks_of_none, passed_nothing, runs_of_none, waits_of_none}

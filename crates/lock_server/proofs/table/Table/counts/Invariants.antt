@@ -1,6 +1,4 @@
-use Rattle.std.proofs.Common.{◌-◌, ◌^◌}
-use Rattle.lock_server.specs.Counting.{flock_locks_on, runs_on, waits_on}
-use Rattle.lock_server.specs.TableView.{table_state}
+use Rattle.lock_server.proofs.Common.{◌-◌, ◌^◌, flock_locks_on, runs_on, waits_on, table_state}
 use Rattle.lock_server.proofs.CountLemmas.{IsCountingFiles}
 use Rattle.lock_server.proofs.ForgetLemmas.{next_of}
 use Rattle.lock_server.proofs.table.Table.counts.Given as goal

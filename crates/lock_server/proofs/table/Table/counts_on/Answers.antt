@@ -1,9 +1,5 @@
-use Rattle.std.proofs.Common.{◌∙◌, ap, sym, subst}
-use Rattle.std.specs.Option.{option_copied}
-use Rattle.lock_server.specs.Counting.{AreCountsOn, told}
-use Rattle.lock_server.specs.FileView.{state_at}
-use Rattle.lock_server.specs.Files.{FileState}
-use Rattle.lock_server.specs.TableView.{entry_of, table_state}
+use Rattle.lock_server.proofs.Common.{◌∙◌, ap, sym, subst, option_copied, told, state_at, FileState, entry_of, table_state}
+use Rattle.lock_server.specs.Counting.{AreCountsOn}
 use Rattle.lock_server.proofs.CountLemmas.{flock_locks_untouched, runs_untouched}
 use Rattle.lock_server.proofs.table.Table.counts_on.Goals as goal
 

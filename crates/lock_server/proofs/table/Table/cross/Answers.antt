@@ -1,5 +1,4 @@
-use Rattle.std.proofs.Common.{refl, [], ◌∷◌}
-use Rattle.lock_server.specs.TableView.{table_state, entry_of}
+use Rattle.lock_server.proofs.Common.{refl, [], ◌∷◌, table_state, entry_of}
 use Rattle.lock_server.proofs.CrossLemmas.{Crosses-by, CrossesBy-crosses}
 use Rattle.lock_server.proofs.StateLemmas.{SameFile-itself}
 use Rattle.lock_server.proofs.TableMoves.{indexed, state_by, tickets_known, waiters_known, waits_in}

@@ -1,7 +1,4 @@
-use Rattle.std.proofs.Common.{arith, ◌∙◌}
-use Rattle.std.proofs.lemmas.Grind.{common_steps}
-use Rattle.lock_server.specs.Pendings.{is_byte_wait}
-use Rattle.lock_server.specs.TableView.{table_state}
+use Rattle.lock_server.proofs.Common.{arith, ◌∙◌, common_steps, is_byte_wait, table_state}
 use Rattle.lock_server.proofs.ForgetLemmas.{all_dismissed, dismissing_more, dismissing_none, fewer_after}
 use Rattle.lock_server.proofs.GrantedMoves.{crosses_itself}
 use Rattle.lock_server.proofs.table.Table.dismiss.Goals as goal

@@ -1,6 +1,4 @@
-use Rattle.std.proofs.Common.{length}
-use Rattle.lock_server.specs.Pendings.{is_byte_wait}
-use Rattle.lock_server.specs.TableView.{KeepsOthers, table_state}
+use Rattle.lock_server.proofs.Common.{length, is_byte_wait, KeepsOthers, table_state}
 use Rattle.lock_server.proofs.ForgetLemmas.{IsDismissing}
 use Rattle.lock_server.proofs.table.Table.dismiss.Given as goal
 

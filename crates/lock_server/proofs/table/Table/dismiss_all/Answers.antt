@@ -1,8 +1,5 @@
-use Rattle.std.proofs.Common.{◌∙◌, arith}
-use Rattle.std.proofs.lemmas.Grind.{common_steps}
+use Rattle.lock_server.proofs.Common.{◌∙◌, arith, common_steps, is_leaving, table_state}
 use Rattle.lock_server.specs.declared.leaving.Leaving.TheVariants.{All}
-use Rattle.lock_server.specs.Leaving.{is_leaving}
-use Rattle.lock_server.specs.TableView.{table_state}
 use Rattle.lock_server.proofs.ClientLemmas.{all_left}
 use Rattle.lock_server.proofs.ForgetLemmas.{dismissing_more, dismissing_none, fewer_after}
 use Rattle.lock_server.proofs.GrantedMoves.{crosses_itself}

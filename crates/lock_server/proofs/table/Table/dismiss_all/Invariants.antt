@@ -1,7 +1,5 @@
-use Rattle.std.proofs.Common.{length}
+use Rattle.lock_server.proofs.Common.{length, is_leaving, KeepsOthers, table_state}
 use Rattle.lock_server.specs.declared.leaving.Leaving.TheVariants.{All}
-use Rattle.lock_server.specs.Leaving.{is_leaving}
-use Rattle.lock_server.specs.TableView.{KeepsOthers, table_state}
 use Rattle.lock_server.proofs.ForgetLemmas.{IsDismissing}
 use Rattle.lock_server.proofs.table.Table.dismiss_all.Given as goal
 

@@ -1,4 +1,4 @@
-use Rattle.lock_server.specs.TableView.{entry_of, table_state}
+use Rattle.lock_server.proofs.Common.{entry_of, table_state}
 use Rattle.lock_server.proofs.IndexLemmas.{file_written}
 use Rattle.lock_server.proofs.EntryMoves.{kept_indexed, leaves_by, left_changes, left_indexed}
 use Rattle.lock_server.proofs.table.Table.dismiss_one.Goals as goal

@@ -1,5 +1,4 @@
-use Rattle.std.proofs.Common.{sym, None}
-use Rattle.lock_server.specs.TableView.{entry_of, table_state}
+use Rattle.lock_server.proofs.Common.{sym, None, entry_of, table_state}
 use Rattle.lock_server.proofs.ClientLemmas.{forgets_by}
 use Rattle.lock_server.proofs.EntryMoves.{put_indexed}
 use Rattle.lock_server.proofs.table.Table.drop_entry.Goals as goal

@@ -1,7 +1,4 @@
-use Rattle.std.proofs.Common.{ℕ, arith, inl, inr, subst, sym}
-use Rattle.std.proofs.lemmas.Bool.{cases_eq, cases_lt}
-use Rattle.lock_server.specs.Settling.{IsSettled}
-use Rattle.lock_server.specs.TableView.{table_state}
+use Rattle.lock_server.proofs.Common.{ℕ, arith, inl, inr, subst, sym, cases_eq, cases_lt, IsSettled, table_state}
 use Rattle.lock_server.proofs.ForgetLemmas.{above_from_next, next_from_above, next_of}
 use Rattle.lock_server.proofs.RestoringLemmas.{settled_untouched, unsettled}
 use Rattle.lock_server.proofs.table.Table.first_ready.Goals as goal

@@ -1,8 +1,4 @@
-use Rattle.std.proofs.Common.{ℕ, get_or}
-use Rattle.std.proofs.lemmas.Option.{slice_get-get_or}
-use Rattle.lock_server.specs.Deadlock.{WaitsForOn}
-use Rattle.lock_server.specs.Index.{state_in}
-use Rattle.lock_server.specs.TableView.{entry_of, table_state}
+use Rattle.lock_server.proofs.Common.{ℕ, get_or, slice_get-get_or, WaitsForOn, state_in, entry_of, table_state}
 use Rattle.lock_server.proofs.FollowLemmas.{files_all, given_more, given_none}
 use Rattle.lock_server.proofs.table.Table.follow.Goals as goal
 

@@ -1,6 +1,4 @@
-use Rattle.lock_server.specs.Deadlock.{WaitsForOn}
-use Rattle.lock_server.specs.Index.{state_in}
-use Rattle.lock_server.specs.LookedAt.{Follows}
+use Rattle.lock_server.proofs.Common.{WaitsForOn, state_in, Follows}
 use Rattle.lock_server.proofs.GatheredOwnerLemmas.{IsGivenBefore}
 use Rattle.lock_server.proofs.table.Table.follow.Given as goal
 

@@ -1,10 +1,4 @@
-use Rattle.std.proofs.Common.{◌≡◌, ◌∙◌, None, Some, sym, subst, take}
-use Rattle.std.specs.Prelude.{OnOk}
-use Rattle.std.proofs.lemmas.Option.{same_Some}
-use Rattle.lock_server.specs.declared.Pending.{Pending}
-use Rattle.lock_server.specs.Deadlock.{IsBlockedByOwner}
-use Rattle.lock_server.specs.LookedAt.{Follows}
-use Rattle.lock_server.specs.TableView.{table_state}
+use Rattle.lock_server.proofs.Common.{◌≡◌, ◌∙◌, None, Some, sym, subst, take, OnOk, same_Some, Pending, IsBlockedByOwner, Follows, table_state}
 use Rattle.lock_server.proofs.table.Table.follow_at.Goals as goal
 
 pub follow_wait-requires : goal.follow_wait-requires

@@ -1,5 +1,4 @@
-use Rattle.std.proofs.Common.{ℕ, ◌+◌, arith, refl}
-use Rattle.lock_server.specs.TableView.{table_state}
+use Rattle.lock_server.proofs.Common.{ℕ, ◌+◌, arith, refl, table_state}
 use Rattle.lock_server.proofs.FollowLemmas.{none_from_start, parts_end, parts_more, parts_whole}
 use Rattle.lock_server.proofs.table.Table.follow_bytes.Goals as goal
 

@@ -1,7 +1,4 @@
-use Rattle.std.proofs.Common.{◌≡◌, ◌≤◌, ◌-◌, ◌^◌}
-use Rattle.lock_server.specs.Blockers.{AddsGoingOn, BlocksBefore}
-use Rattle.lock_server.specs.LookedAt.{AreTold}
-use Rattle.lock_server.specs.TableView.{table_state}
+use Rattle.lock_server.proofs.Common.{◌≡◌, ◌≤◌, ◌-◌, ◌^◌, AddsGoingOn, BlocksBefore, AreTold, table_state}
 use Rattle.lock_server.proofs.table.Table.follow_bytes.Given as goal
 
 abbrev pub invariant-loop-part : goal.invariant-loop-part

@@ -1,8 +1,4 @@
-use Rattle.std.proofs.lemmas.Result.{on_ok_weaker}
-use Rattle.std.proofs.Common.{ℕ, ◌≡◌, Any, take}
-use Rattle.wait_core.specs.Blocking.{WaitsConflict}
-use Rattle.lock_server.specs.Pendings.{as_wait}
-use Rattle.lock_server.specs.TableView.{table_state}
+use Rattle.lock_server.proofs.Common.{on_ok_weaker, ℕ, ◌≡◌, Any, take, WaitsConflict, as_wait, table_state}
 use Rattle.lock_server.proofs.FollowLemmas.{gathered_followed}
 use Rattle.lock_server.proofs.table.Table.follow_earlier.Goals as goal
 

@@ -1,7 +1,4 @@
-use Rattle.std.proofs.lemmas.Result.{on_ok_weaker}
-use Rattle.std.proofs.Common.{ℕ}
-use Rattle.lock_server.specs.Blockers.{IsFlockHolder}
-use Rattle.lock_server.specs.TableView.{table_state}
+use Rattle.lock_server.proofs.Common.{on_ok_weaker, ℕ, IsFlockHolder, table_state}
 use Rattle.lock_server.proofs.FollowLemmas.{gathered_followed}
 use Rattle.lock_server.proofs.table.Table.follow_flocks.Goals as goal
 

@@ -1,7 +1,4 @@
-use Rattle.std.proofs.lemmas.Result.{on_ok_weaker}
-use Rattle.lock_server.specs.Blockers.{BlocksOn, IsFlockHolder}
-use Rattle.lock_server.specs.Deadlock.{BlocksIn}
-use Rattle.lock_server.specs.TableView.{table_state}
+use Rattle.lock_server.proofs.Common.{on_ok_weaker, BlocksOn, IsFlockHolder, BlocksIn, table_state}
 use Rattle.lock_server.proofs.BlockerLemmas.{by_bytes, by_flock}
 use Rattle.lock_server.proofs.FollowLemmas.{followed_as}
 use Rattle.lock_server.proofs.table.Table.follow_holders.Goals as goal

@@ -1,9 +1,4 @@
-use Rattle.std.proofs.Common.{ℕ, ◌∙◌, sym, subst, Contains, arith}
-use Rattle.std.proofs.lemmas.Grind.{common_steps}
-use Rattle.std.proofs.lemmas.Option.{same_Some}
-use Rattle.lock_server.specs.declared.Pending.{Pending}
-use Rattle.lock_server.specs.Blockers.{IsNextDetected, IsNoneDetected}
-use Rattle.lock_server.specs.TableView.{table_state}
+use Rattle.lock_server.proofs.Common.{ℕ, ◌∙◌, sym, subst, Contains, arith, common_steps, same_Some, Pending, IsNextDetected, IsNoneDetected, table_state}
 use Rattle.lock_server.proofs.BlockerLemmas.{IsStepAt}
 use Rattle.lock_server.proofs.FollowLemmas.{given_none, wait_more, waits_all, waits_up_to}
 use Rattle.lock_server.proofs.table.Table.follow_on.Goals as goal

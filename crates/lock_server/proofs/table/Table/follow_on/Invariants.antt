@@ -1,6 +1,4 @@
-use Rattle.std.proofs.Common.{◌-◌, ◌^◌}
-use Rattle.lock_server.specs.LookedAt.{Follows}
-use Rattle.lock_server.specs.TableView.{table_state}
+use Rattle.lock_server.proofs.Common.{◌-◌, ◌^◌, Follows, table_state}
 use Rattle.lock_server.proofs.BlockerLemmas.{IsStepAt}
 use Rattle.lock_server.proofs.GatheredOwnerLemmas.{IsGivenBefore}
 use Rattle.lock_server.proofs.table.Table.follow_on.Given as goal

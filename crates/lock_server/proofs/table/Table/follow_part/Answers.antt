@@ -1,7 +1,4 @@
-use Rattle.std.proofs.Common.{refl, Contains}
-use Rattle.std.proofs.lemmas.Result.{on_ok_weaker}
-use Rattle.lock_server.specs.Blockers.{AddsGoingOn, BlocksOn}
-use Rattle.lock_server.specs.TableView.{table_state}
+use Rattle.lock_server.proofs.Common.{refl, Contains, on_ok_weaker, AddsGoingOn, BlocksOn, table_state}
 use Rattle.lock_server.proofs.FollowLemmas.{going_gathered, part_followed}
 use Rattle.lock_server.proofs.table.Table.follow_part.Goals as goal
 

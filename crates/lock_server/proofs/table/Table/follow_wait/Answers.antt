@@ -1,9 +1,4 @@
-use Rattle.std.proofs.Common.{◌≡◌, Any, take}
-use Rattle.std.proofs.lemmas.Result.{on_ok_weaker}
-use Rattle.wait_core.specs.Blocking.{WaitsConflict}
-use Rattle.lock_server.specs.Deadlock.{BlocksIn, IsBlockedByOwner}
-use Rattle.lock_server.specs.Pendings.{as_wait}
-use Rattle.lock_server.specs.TableView.{table_state}
+use Rattle.lock_server.proofs.Common.{◌≡◌, Any, take, on_ok_weaker, WaitsConflict, BlocksIn, IsBlockedByOwner, as_wait, table_state}
 use Rattle.lock_server.proofs.FollowLemmas.{by_held, by_queue, followed_as, followed_both}
 use Rattle.lock_server.proofs.table.Table.follow_wait.Goals as goal
 

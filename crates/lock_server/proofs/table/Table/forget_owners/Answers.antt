@@ -1,4 +1,4 @@
-use Rattle.lock_server.specs.TableView.{table_state}
+use Rattle.lock_server.proofs.Common.{table_state}
 use Rattle.lock_server.proofs.HolderLemmas.{settled_still}
 use Rattle.lock_server.proofs.table.Table.forget_owners.Goals as goal
 

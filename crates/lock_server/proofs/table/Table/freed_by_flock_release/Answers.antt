@@ -1,6 +1,4 @@
-use Rattle.std.proofs.Common.{[], None, subst, sym}
-use Rattle.lock_server.specs.Files.{SetsFlock, FileState}
-use Rattle.lock_server.specs.Freed.{Frees}
+use Rattle.lock_server.proofs.Common.{[], None, subst, sym, SetsFlock, FileState, Frees}
 use Rattle.lock_server.proofs.FreedLemmas.{any_but}
 use Rattle.lock_server.proofs.TableLemmas.{found_state}
 use Rattle.lock_server.proofs.table.Table.freed_by_flock_release.Goals as goal

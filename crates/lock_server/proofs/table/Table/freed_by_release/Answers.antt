@@ -1,6 +1,5 @@
-use Rattle.std.proofs.Common.{[], subst, sym}
-use Rattle.lock_server.specs.Files.{ClearsBytes, FileState}
-use Rattle.lock_server.specs.Freed.{Frees}
+use Rattle.lock_server.proofs.Common.{[], subst, sym, FileState, Frees}
+use Rattle.lock_server.specs.Files.{ClearsBytes}
 use Rattle.lock_server.proofs.FreedLemmas.{any_but}
 use Rattle.lock_server.proofs.TableLemmas.{found_state}
 use Rattle.lock_server.proofs.table.Table.freed_by_release.Goals as goal

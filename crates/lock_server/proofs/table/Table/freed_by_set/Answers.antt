@@ -1,6 +1,4 @@
-use Rattle.std.proofs.Common.{[], subst, sym}
-use Rattle.lock_server.specs.Files.{FileState}
-use Rattle.lock_server.specs.Freed.{SetFrees}
+use Rattle.lock_server.proofs.Common.{[], subst, sym, FileState, SetFrees}
 use Rattle.lock_server.proofs.FreedLemmas.{any_but}
 use Rattle.lock_server.proofs.TableLemmas.{found_state}
 use Rattle.lock_server.proofs.table.Table.freed_by_set.Goals as goal

@@ -1,5 +1,4 @@
-use Rattle.std.proofs.Common.{arith}
-use Rattle.std.proofs.lemmas.Grind.{common_steps}
+use Rattle.lock_server.proofs.Common.{arith, common_steps}
 use Rattle.lock_server.proofs.TableMoves.{indexed, tickets_known, waiters_known}
 use Rattle.lock_server.proofs.TakenLemmas.{idle_none, idle_reserved}
 use Rattle.lock_server.proofs.TicketMoves.{tickets_noted}

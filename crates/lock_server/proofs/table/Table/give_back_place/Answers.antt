@@ -1,6 +1,4 @@
-use Rattle.std.proofs.Common.{arith}
-use Rattle.std.proofs.lemmas.Grind.{common_steps}
-use Rattle.lock_server.specs.TableView.{entry_of, table_state}
+use Rattle.lock_server.proofs.Common.{arith, common_steps, entry_of, table_state}
 use Rattle.lock_server.proofs.IndexLemmas.{file_written}
 use Rattle.lock_server.proofs.EntryMoves.{kept_indexed}
 use Rattle.lock_server.proofs.TableMoves.{at_entries}

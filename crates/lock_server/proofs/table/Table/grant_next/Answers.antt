@@ -1,10 +1,4 @@
-use Rattle.std.proofs.Common.{ap, subst, sym}
-use Rattle.lock_server.specs.Files.{FileState}
-use Rattle.lock_server.specs.FileView.{file_state, state_at}
-use Rattle.lock_server.specs.FilesView.{entry_in}
-use Rattle.lock_server.specs.Freed.{AreBlockedBut, IsKnown}
-use Rattle.lock_server.specs.TableView.{entry_of, table_state}
-use Rattle.lock_server.specs.Waiting.{IsReadyAt}
+use Rattle.lock_server.proofs.Common.{ap, subst, sym, FileState, file_state, state_at, entry_in, AreBlockedBut, IsKnown, entry_of, table_state, IsReadyAt}
 use Rattle.lock_server.proofs.EntryMoves.{keeps_room_on}
 use Rattle.lock_server.proofs.GrantedMoves.{granted_indexed, granted_waited, grants_by, lent_of_ready, reserved_stays}
 use Rattle.lock_server.proofs.IndexLemmas.{file_written}

@@ -1,9 +1,4 @@
-use Rattle.std.proofs.Common.{◌≡◌, ◌∙◌, ap, sym, subst, true, false}
-use Rattle.std.specs.Option.{option_copied}
-use Rattle.lock_server.specs.Clients.{HaveLocksOn}
-use Rattle.lock_server.specs.FileView.{state_at}
-use Rattle.lock_server.specs.Files.{FileState, untouched}
-use Rattle.lock_server.specs.TableView.{entry_of, table_state}
+use Rattle.lock_server.proofs.Common.{◌≡◌, ◌∙◌, ap, sym, subst, true, false, option_copied, HaveLocksOn, state_at, FileState, untouched, entry_of, table_state}
 use Rattle.lock_server.proofs.HasLockLemmas.{none_untouched}
 use Rattle.lock_server.proofs.StateLemmas.{SameFile-itself}
 use Rattle.lock_server.proofs.table.Table.has_locks_on.Goals as goal

@@ -1,5 +1,4 @@
-use Rattle.std.proofs.Common.{arith}
-use Rattle.std.proofs.lemmas.Grind.{common_steps}
+use Rattle.lock_server.proofs.Common.{arith, common_steps}
 use Rattle.lock_server.proofs.TakenLemmas.{idle_none, idle_reserved, not_taken, taken_granted, taken_waiting}
 use Rattle.lock_server.proofs.table.Table.is_taken.Goals as goal
 

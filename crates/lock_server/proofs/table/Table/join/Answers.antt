@@ -1,4 +1,4 @@
-use Rattle.lock_server.specs.TableView.{entry_of, table_state}
+use Rattle.lock_server.proofs.Common.{entry_of, table_state}
 use Rattle.lock_server.proofs.IndexLemmas.{file_written}
 use Rattle.lock_server.proofs.EntryMoves.{joined_changes, joined_indexed, joins_by}
 use Rattle.lock_server.proofs.table.Table.join.Goals as goal

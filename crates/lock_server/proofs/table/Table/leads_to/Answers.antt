@@ -1,8 +1,4 @@
-use Rattle.std.proofs.Common.{ℕ, ◌≡◌, ◌++◌, ◌∙◌, ◌⊎◌, arith, inl, inr, sym, subst, refl, true, false, Contains, List}
-use Rattle.lock_server.specs.Blockers.{IsGoingOn}
-use Rattle.lock_server.specs.Deadlock.{WaitsFor}
-use Rattle.lock_server.specs.LookedAt.{Follows}
-use Rattle.lock_server.specs.TableView.{table_state}
+use Rattle.lock_server.proofs.Common.{ℕ, ◌≡◌, ◌++◌, ◌∙◌, ◌⊎◌, arith, inl, inr, sym, subst, refl, true, false, Contains, List, IsGoingOn, WaitsFor, Follows, table_state}
 use Rattle.lock_server.proofs.ReachedLemmas.{read_at, read_past, step_goes_on}
 use Rattle.lock_server.proofs.SearchLemmas.{searched_all, searched_found, searched_more}
 use Rattle.lock_server.proofs.table.Table.leads_to.Goals as goal

@@ -1,8 +1,4 @@
-use Rattle.std.proofs.Common.{◌-◌, ◌^◌}
-use Rattle.lock_server.specs.Blockers.{IsGoingOn}
-use Rattle.lock_server.specs.Deadlock.{WaitsFor}
-use Rattle.lock_server.specs.LookedAt.{AreTold}
-use Rattle.lock_server.specs.TableView.{table_state}
+use Rattle.lock_server.proofs.Common.{◌-◌, ◌^◌, IsGoingOn, WaitsFor, AreTold, table_state}
 use Rattle.lock_server.proofs.SearchLemmas.{IsSearched}
 use Rattle.lock_server.proofs.table.Table.leads_to.Given as goal
 

@@ -1,8 +1,4 @@
-use Rattle.std.proofs.Common.{sym, subst}
-use Rattle.std.specs.Prelude.{IfNone}
-use Rattle.lock_server.specs.Blockers.{IsNoneDetected}
-use Rattle.lock_server.specs.Files.{FileState}
-use Rattle.lock_server.specs.FileView.{file_state}
+use Rattle.lock_server.proofs.Common.{sym, subst, IfNone, IsNoneDetected, FileState, file_state}
 use Rattle.lock_server.proofs.ConflictingLemmas.{detected_told}
 use Rattle.lock_server.proofs.TableLemmas.{found_state}
 use Rattle.lock_server.proofs.table.Table.next_detected.Goals as goal

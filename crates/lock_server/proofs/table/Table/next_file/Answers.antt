@@ -1,7 +1,4 @@
-use Rattle.std.proofs.Common.{arith, ◌≡◌, Some}
-use Rattle.std.proofs.lemmas.Grind.{common_steps}
-use Rattle.lock_server.specs.FilesView.{entry_in}
-use Rattle.lock_server.specs.TableView.{entry_of}
+use Rattle.lock_server.proofs.Common.{arith, ◌≡◌, Some, common_steps, entry_in, entry_of}
 use Rattle.lock_server.proofs.table.Table.next_file.Goals as goal
 use Rattle.lock_server.proofs.table.Table.next_file.Goals.{in-None, in-Some}
 

@@ -1,7 +1,5 @@
-use Rattle.std.proofs.Common.{ℕ, inl, inr}
-use Rattle.lock_server.specs.Files.{SameFile, untouched}
+use Rattle.lock_server.proofs.Common.{ℕ, inl, inr, SameFile, untouched, table_state}
 use Rattle.lock_server.specs.HoldingsView.{AreUnkept, HasNoneOf}
-use Rattle.lock_server.specs.TableView.{table_state}
 use Rattle.lock_server.proofs.HolderLemmas.{least_then, none_then}
 use Rattle.lock_server.proofs.table.Table.next_file_of.Goals as goal
 

@@ -1,11 +1,4 @@
-use Rattle.std.proofs.Common.{ℕ, ◌≡◌, ◌<◌, ◌≤◌, ◌∙◌, ap, sym, subst}
-use Rattle.std.specs.Option.{option_copied}
-use Rattle.std.specs.Prelude.{IfNone, IfSome}
-use Rattle.lock_server.specs.Files.{FileState}
-use Rattle.lock_server.specs.FileView.{file_state, state_at}
-use Rattle.lock_server.specs.Holding.{HasNoLock}
-use Rattle.lock_server.specs.Listing.{number_behind}
-use Rattle.lock_server.specs.TableView.{entry_of, table_state}
+use Rattle.lock_server.proofs.Common.{ℕ, ◌≡◌, ◌<◌, ◌≤◌, ◌∙◌, ap, sym, subst, option_copied, IfNone, IfSome, FileState, file_state, state_at, HasNoLock, number_behind, entry_of, table_state}
 use Rattle.lock_server.proofs.table.Table.next_known.Goals as goal
 
 pub returns-clause-least : goal.returns-clause-least

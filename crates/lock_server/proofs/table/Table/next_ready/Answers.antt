@@ -1,6 +1,4 @@
-use Rattle.std.proofs.Common.{subst}
-use Rattle.lock_server.specs.Files.{FileState}
-use Rattle.lock_server.specs.Freed.{IsKnown}
+use Rattle.lock_server.proofs.Common.{subst, FileState, IsKnown}
 use Rattle.lock_server.proofs.TableLemmas.{found_state}
 use Rattle.lock_server.proofs.table.Table.next_ready.Goals as goal
 

@@ -1,5 +1,4 @@
-use Rattle.lock_server.specs.Listing.{number_behind, wait_place}
-use Rattle.lock_server.specs.TableView.{table_state}
+use Rattle.lock_server.proofs.Common.{number_behind, wait_place, table_state}
 use Rattle.lock_server.proofs.ForgetLemmas.{above_from_next, next_from_above}
 use Rattle.lock_server.proofs.OwnerWaitLemmas.{all_waits, wait_beyond}
 use Rattle.lock_server.proofs.table.Table.next_wait.Goals as goal

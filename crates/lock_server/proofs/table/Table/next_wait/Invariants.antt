@@ -1,6 +1,4 @@
-use Rattle.std.proofs.Common.{◌<◌, ◌-◌, ◌^◌}
-use Rattle.lock_server.specs.Listing.{IsNextFrom, IsWaitUpTo, number_behind, wait_place}
-use Rattle.lock_server.specs.TableView.{table_state}
+use Rattle.lock_server.proofs.Common.{◌<◌, ◌-◌, ◌^◌, IsNextFrom, IsWaitUpTo, number_behind, wait_place, table_state}
 use Rattle.lock_server.proofs.table.Table.next_wait.Given as goal
 
 -- the first of the waits on the files that were looked at

@@ -1,7 +1,4 @@
-use Rattle.std.proofs.Common.{◌≡◌, sym, true, false}
-use Rattle.std.specs.Prelude.{is_some}
-use Rattle.lock_server.specs.FilesView.{entry_in}
-use Rattle.lock_server.specs.TableView.{entry_of}
+use Rattle.lock_server.proofs.Common.{◌≡◌, sym, true, false, is_some, entry_in, entry_of}
 use Rattle.lock_server.proofs.EntryMoves.{none_from_test, opened_indexed, some_from_test}
 use Rattle.lock_server.proofs.table.Table.open.Goals as goal
 

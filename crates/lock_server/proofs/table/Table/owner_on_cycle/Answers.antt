@@ -1,7 +1,5 @@
-use Rattle.std.proofs.Common.{◌≡◌, ◌∙◌, ℕ, List, Contains, refl, subst, sym, true, false}
-use Rattle.lock_server.specs.Deadlock.{WaitsFor}
-use Rattle.lock_server.specs.Searching.{ComesTo, IsSearchedInDepth}
-use Rattle.lock_server.specs.TableView.{table_state}
+use Rattle.lock_server.proofs.Common.{◌≡◌, ◌∙◌, ℕ, List, Contains, refl, subst, sym, true, false, WaitsFor, IsSearchedInDepth, table_state}
+use Rattle.lock_server.specs.Searching.{ComesTo}
 use Rattle.lock_server.proofs.ReachedLemmas.{gathered_from_none}
 use Rattle.lock_server.proofs.SearchInDepthLemmas.{searched_back, searched_closed, searched_come, searched_none, searched_on, popped, searched_through, step_from}
 use Rattle.lock_server.proofs.table.Table.owner_on_cycle.Goals as goal

@@ -1,5 +1,5 @@
-use Rattle.lock_server.specs.Searching.{IsSearchedInDepth, steps_left}
-use Rattle.lock_server.specs.TableView.{table_state}
+use Rattle.lock_server.proofs.Common.{IsSearchedInDepth, table_state}
+use Rattle.lock_server.specs.Searching.{steps_left}
 use Rattle.lock_server.proofs.table.Table.owner_on_cycle.Given as goal
 
 abbrev pub invariant-loop-search : goal.invariant-loop-search

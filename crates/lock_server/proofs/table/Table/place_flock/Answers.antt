@@ -1,4 +1,4 @@
-use Rattle.lock_server.specs.TableView.{entry_of}
+use Rattle.lock_server.proofs.Common.{entry_of}
 use Rattle.lock_server.proofs.IndexLemmas.{file_written}
 use Rattle.lock_server.proofs.EntryMoves.{kept_indexed}
 use Rattle.lock_server.proofs.table.Table.place_flock.Goals as goal

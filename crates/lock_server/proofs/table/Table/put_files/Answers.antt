@@ -1,10 +1,4 @@
-use Rattle.std.proofs.Common.{◌≡◌, Some, ◌∷◌, []}
-use Rattle.std.specs.BTreeMap.{get}
-use Rattle.std.specs.Map.Iter.{deref_pair}
-use Rattle.std.specs.Ordering.{nat_cmp}
-use Rattle.std.proofs.lemmas.Map.Iter.{iter_end}
-use Rattle.lock_server.specs.Bytes.{file_words}
-use Rattle.lock_server.specs.TableView.{table_state}
+use Rattle.lock_server.proofs.Common.{◌≡◌, Some, ◌∷◌, [], get, deref_pair, nat_cmp, iter_end, file_words, table_state}
 use Rattle.lock_server.proofs.ExportLemmas.{IsFilePiece, all_files, entry_held, file_piece}
 use Rattle.lock_server.proofs.WalkLemmas.{next_entry, walked_more, walked_none}
 use Rattle.lock_server.proofs.WordLemmas.{item_alone}

@@ -1,5 +1,4 @@
-use Rattle.lock_server.specs.Bytes.{file_words}
-use Rattle.lock_server.specs.TableView.{table_state}
+use Rattle.lock_server.proofs.Common.{file_words, table_state}
 use Rattle.lock_server.proofs.ExportLemmas.{IsFilePiece}
 use Rattle.lock_server.proofs.WalkLemmas.{Walked}
 use Rattle.lock_server.proofs.table.Table.put_files.Given as goal

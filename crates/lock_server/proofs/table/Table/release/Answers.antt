@@ -1,9 +1,4 @@
-use Rattle.std.proofs.Common.{◌∙◌, ap, subst, sym}
-use Rattle.std.specs.Option.{option_copied_mut}
-use Rattle.wait_core.specs.declared.Family.TheVariants.{Bytes}
-use Rattle.lock_server.specs.declared.files.Files.{Files}
-use Rattle.lock_server.specs.Calls.{ReleasesOn}
-use Rattle.lock_server.specs.TableView.{entry_of, table_state}
+use Rattle.lock_server.proofs.Common.{◌∙◌, ap, subst, sym, option_copied_mut, Bytes, Files, ReleasesOn, entry_of, table_state}
 use Rattle.lock_server.proofs.IndexLemmas.{file_written}
 use Rattle.lock_server.proofs.TableMoves.{state_by}
 use Rattle.lock_server.proofs.EntryMoves.{kept_indexed, releases_by, releases_nothing}

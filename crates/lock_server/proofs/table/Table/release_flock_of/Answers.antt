@@ -1,5 +1,4 @@
-use Rattle.std.proofs.Common.{arith}
-use Rattle.std.proofs.lemmas.Grind.{common_steps}
+use Rattle.lock_server.proofs.Common.{arith, common_steps}
 use Rattle.lock_server.proofs.ClosingLemmas.{closes_flock, closes_nobody}
 use Rattle.lock_server.proofs.GrantedMoves.{crosses_itself}
 use Rattle.lock_server.proofs.table.Table.release_flock_of.Goals as goal

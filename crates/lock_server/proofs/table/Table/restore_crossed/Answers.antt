@@ -1,5 +1,4 @@
-use Rattle.std.proofs.Common.{◌∙◌, refl}
-use Rattle.lock_server.specs.TableView.{table_state}
+use Rattle.lock_server.proofs.Common.{◌∙◌, refl, table_state}
 use Rattle.lock_server.proofs.GrantedMoves.{crosses_itself}
 use Rattle.lock_server.proofs.RestoringLemmas.{crosses_all, crosses_next}
 use Rattle.lock_server.proofs.StateLemmas.{SameFile-itself}

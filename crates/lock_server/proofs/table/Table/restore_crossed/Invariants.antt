@@ -1,6 +1,4 @@
-use Rattle.std.proofs.Common.{take}
-use Rattle.lock_server.specs.Restoring.{CrossesEach}
-use Rattle.lock_server.specs.TableView.{KeepsEntries, table_state}
+use Rattle.lock_server.proofs.Common.{take, CrossesEach, KeepsEntries, table_state}
 use Rattle.lock_server.proofs.table.Table.restore_crossed.Given as goal
 
 abbrev pub invariant-loop-owner : goal.invariant-loop-owner

@@ -1,15 +1,4 @@
-use Rattle.std.proofs.Common.{◌∙◌, get_or, subst, sym, Some}
-use Rattle.std.proofs.lemmas.Option.{slice_get-get_or}
-use Rattle.range_core.specs.declared.Mode.TheVariants.{Read}
-use Rattle.wait_core.specs.declared.Family.TheVariants.{Whole}
-use Rattle.lock_book.specs.Changes.{whole_file}
-use Rattle.lock_server.specs.declared.FlockLock.{FlockLock}
-use Rattle.lock_server.specs.declared.Pending.{Pending}
-use Rattle.lock_server.specs.Calls.{SetsOn}
-use Rattle.lock_server.specs.Restoring.{flock_lock_request}
-use Rattle.lock_server.specs.Settling.{IsHeldBack}
-use Rattle.lock_server.specs.States.{State}
-use Rattle.lock_server.specs.TableView.{table_state}
+use Rattle.lock_server.proofs.Common.{◌∙◌, get_or, subst, sym, Some, slice_get-get_or, Read, Whole, whole_file, FlockLock, Pending, SetsOn, flock_lock_request, IsHeldBack, State, table_state}
 use Rattle.lock_server.proofs.RestoringLemmas.{sets_all, sets_next, swept_set_flock}
 use Rattle.lock_server.proofs.StateLemmas.{state_from_same}
 use Rattle.lock_server.proofs.SweptLemmas.{all_swept_but}

@@ -1,6 +1,4 @@
-use Rattle.std.proofs.Common.{map, take}
-use Rattle.lock_server.specs.Restoring.{SetsEach, flock_lock_request}
-use Rattle.lock_server.specs.TableView.{AreSwept, table_state}
+use Rattle.lock_server.proofs.Common.{map, take, SetsEach, flock_lock_request, AreSwept, table_state}
 use Rattle.lock_server.proofs.table.Table.restore_flocks.Given as goal
 
 abbrev pub invariant-loop-i : goal.invariant-loop-i

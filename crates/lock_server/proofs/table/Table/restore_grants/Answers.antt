@@ -1,6 +1,4 @@
-use Rattle.std.proofs.Common.{◌∙◌, get_or}
-use Rattle.std.proofs.lemmas.Option.{slice_get-get_or}
-use Rattle.lock_server.specs.TableView.{table_state}
+use Rattle.lock_server.proofs.Common.{◌∙◌, get_or, slice_get-get_or, table_state}
 use Rattle.lock_server.proofs.RestoringLemmas.{queues_all, queues_next}
 use Rattle.lock_server.proofs.table.Table.restore_grants.Goals as goal
 

@@ -1,6 +1,4 @@
-use Rattle.std.proofs.Common.{take}
-use Rattle.lock_server.specs.Restoring.{QueuesEach}
-use Rattle.lock_server.specs.TableView.{KeepsEntries, table_state}
+use Rattle.lock_server.proofs.Common.{take, QueuesEach, KeepsEntries, table_state}
 use Rattle.lock_server.proofs.table.Table.restore_grants.Given as goal
 
 abbrev pub invariant-loop-i : goal.invariant-loop-i

@@ -1,11 +1,4 @@
-use Rattle.std.proofs.Common.{get_or, subst, sym}
-use Rattle.std.proofs.lemmas.Option.{slice_get-get_or}
-use Rattle.range_core.specs.declared.Mode.TheVariants.{Read}
-use Rattle.lock_server.specs.declared.Lock.{Lock}
-use Rattle.lock_server.specs.declared.Pending.{Pending}
-use Rattle.lock_server.specs.Restoring.{lock_request}
-use Rattle.lock_server.specs.Settling.{IsHeldBack}
-use Rattle.lock_server.specs.TableView.{table_state}
+use Rattle.lock_server.proofs.Common.{get_or, subst, sym, slice_get-get_or, Read, Lock, Pending, lock_request, IsHeldBack, table_state}
 use Rattle.lock_server.proofs.RestoringLemmas.{sets_all, sets_next, swept_set}
 use Rattle.lock_server.proofs.SweptLemmas.{all_swept_but}
 use Rattle.lock_server.proofs.table.Table.restore_locks.Goals as goal

@@ -1,11 +1,4 @@
-use Rattle.std.proofs.Common.{◌∙◌, get_or, subst, false}
-use Rattle.std.proofs.lemmas.Option.{slice_get-get_or}
-use Rattle.range_core.specs.declared.Mode.TheVariants.{Read}
-use Rattle.wait_core.specs.declared.Family.TheVariants.{Bytes}
-use Rattle.lock_server.specs.declared.Pending.{Pending}
-use Rattle.lock_server.specs.Calls.{Suspends}
-use Rattle.lock_server.specs.States.{State}
-use Rattle.lock_server.specs.TableView.{table_state}
+use Rattle.lock_server.proofs.Common.{◌∙◌, get_or, subst, false, slice_get-get_or, Read, Bytes, Pending, Suspends, State, table_state}
 use Rattle.lock_server.proofs.RestoringLemmas.{joins_all, joins_next}
 use Rattle.lock_server.proofs.StateLemmas.{state_from_same}
 use Rattle.lock_server.proofs.SweptLemmas.{all_swept_but, swept_with_wait}

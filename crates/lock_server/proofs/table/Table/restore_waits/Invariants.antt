@@ -1,6 +1,4 @@
-use Rattle.std.proofs.Common.{take}
-use Rattle.lock_server.specs.Restoring.{JoinsEach}
-use Rattle.lock_server.specs.TableView.{AreSwept, table_state}
+use Rattle.lock_server.proofs.Common.{take, JoinsEach, AreSwept, table_state}
 use Rattle.lock_server.proofs.table.Table.restore_waits.Given as goal
 
 abbrev pub invariant-loop-i : goal.invariant-loop-i

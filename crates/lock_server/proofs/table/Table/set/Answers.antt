@@ -1,11 +1,6 @@
-use Rattle.std.proofs.Common.{◌≡◌, ◌∙◌, sym, subst, true, false, Option, Some, None}
-use Rattle.std.specs.Prelude.{is_some}
+use Rattle.lock_server.proofs.Common.{◌≡◌, ◌∙◌, sym, subst, true, false, Option, Some, None, is_some, Mode, Bytes, entry_in, SetsOn, entry_of, table_state}
 use Rattle.std.proofs.lemmas.Bool.{false≢true}
-use Rattle.range_core.specs.declared.Mode.{Mode}
-use Rattle.wait_core.specs.declared.Family.TheVariants.{Bytes}
-use Rattle.lock_server.specs.FilesView.{entry_in}
-use Rattle.lock_server.specs.Calls.{SetsOn}
-use Rattle.lock_server.specs.TableView.{HasEntry, entry_of, table_state}
+use Rattle.lock_server.specs.TableView.{HasEntry}
 use Rattle.lock_server.proofs.EntryMoves.{none_from_test, on_err, some_from_test, unlocks_nothing}
 use Rattle.lock_server.proofs.table.Table.set.Goals.{else-is_none-via-then-is_none+else-not-contains_key, else-is_none-via-else-is_none}
 use Rattle.lock_server.proofs.table.Table.set.Goals as goal

@@ -1,5 +1,4 @@
-use Rattle.wait_core.specs.declared.Family.TheVariants.{Bytes}
-use Rattle.lock_server.specs.TableView.{entry_of, table_state}
+use Rattle.lock_server.proofs.Common.{Bytes, entry_of, table_state}
 use Rattle.lock_server.proofs.IndexLemmas.{file_written}
 use Rattle.lock_server.proofs.EntryMoves.{given_indexed, kept_indexed, on_err, sets_by}
 use Rattle.lock_server.proofs.TableMoves.{same_by}

@@ -1,5 +1,4 @@
-use Rattle.std.proofs.Common.{[]}
-use Rattle.lock_server.specs.TableView.{table_state}
+use Rattle.lock_server.proofs.Common.{[], table_state}
 use Rattle.lock_server.proofs.FreedLemmas.{any_but}
 use Rattle.lock_server.proofs.table.Table.settle.Goals as goal
 

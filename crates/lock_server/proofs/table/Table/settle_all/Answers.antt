@@ -1,5 +1,4 @@
-use Rattle.std.proofs.Common.{◌∙◌, arith}
-use Rattle.lock_server.specs.TableView.{table_state}
+use Rattle.lock_server.proofs.Common.{◌∙◌, arith, table_state}
 use Rattle.lock_server.proofs.ClientLemmas.{all_files_settled, settling_more, settling_none}
 use Rattle.lock_server.proofs.ForgetLemmas.{above_from_next, next_from_above, next_of}
 use Rattle.lock_server.proofs.HolderLemmas.{passed_settled}

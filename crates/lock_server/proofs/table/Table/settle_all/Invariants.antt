@@ -1,5 +1,4 @@
-use Rattle.std.proofs.Common.{◌-◌, ◌^◌}
-use Rattle.lock_server.specs.TableView.{AreSwept, table_state}
+use Rattle.lock_server.proofs.Common.{◌-◌, ◌^◌, AreSwept, table_state}
 use Rattle.lock_server.proofs.ClientLemmas.{IsSettling}
 use Rattle.lock_server.proofs.ForgetLemmas.{next_of}
 use Rattle.lock_server.proofs.table.Table.settle_all.Given as goal

@@ -1,8 +1,4 @@
-use Rattle.std.proofs.lemmas.Grind.{common_steps}
-use Rattle.std.proofs.Common.{◌∙◌, arith, refl, subst, sym}
-use Rattle.lock_server.specs.Settling.{IsSettled}
-use Rattle.lock_server.specs.States.{SettlesFile, State}
-use Rattle.lock_server.specs.TableView.{table_state}
+use Rattle.lock_server.proofs.Common.{common_steps, ◌∙◌, arith, refl, subst, sym, IsSettled, SettlesFile, State, table_state}
 use Rattle.lock_server.proofs.GrantedMoves.{KeepsRoomOn-itself, KeepsRoomOn-then, crosses_itself}
 use Rattle.lock_server.proofs.SettleLemmas.{fewer_waits, leads_more, leads_nowhere, settled_here}
 use Rattle.lock_server.proofs.StateLemmas.{state_from_same}

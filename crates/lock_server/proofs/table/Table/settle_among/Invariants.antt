@@ -1,7 +1,4 @@
-use Rattle.std.proofs.Common.{◌≡◌, length}
-use Rattle.lock_server.specs.Freed.{IsKnown}
-use Rattle.lock_server.specs.TableRoom.{KeepsRoomOn}
-use Rattle.lock_server.specs.TableView.{KeepsOthers, table_state}
+use Rattle.lock_server.proofs.Common.{◌≡◌, length, IsKnown, KeepsRoomOn, KeepsOthers, table_state}
 use Rattle.lock_server.proofs.SettleLemmas.{HasLedOn}
 use Rattle.lock_server.proofs.table.Table.settle_among.Given as goal
 

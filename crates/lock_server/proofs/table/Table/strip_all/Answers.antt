@@ -1,6 +1,4 @@
-use Rattle.std.proofs.Common.{◌∙◌, arith}
-use Rattle.lock_server.specs.Clients.{is_within}
-use Rattle.lock_server.specs.TableView.{table_state}
+use Rattle.lock_server.proofs.Common.{◌∙◌, arith, is_within, table_state}
 use Rattle.lock_server.proofs.ClientLemmas.{all_files_stripped, stripping_more, stripping_none}
 use Rattle.lock_server.proofs.ForgetLemmas.{above_from_next, next_from_above, next_of}
 use Rattle.lock_server.proofs.HolderLemmas.{nothing_goes, passed_nothing}

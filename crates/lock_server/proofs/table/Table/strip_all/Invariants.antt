@@ -1,6 +1,4 @@
-use Rattle.std.proofs.Common.{◌-◌, ◌^◌}
-use Rattle.lock_server.specs.Clients.{is_within}
-use Rattle.lock_server.specs.TableView.{AreSwept, table_state}
+use Rattle.lock_server.proofs.Common.{◌-◌, ◌^◌, is_within, AreSwept, table_state}
 use Rattle.lock_server.proofs.ClientLemmas.{IsStripping}
 use Rattle.lock_server.proofs.ForgetLemmas.{next_of}
 use Rattle.lock_server.proofs.table.Table.strip_all.Given as goal

@@ -1,8 +1,5 @@
-use Rattle.std.proofs.Common.{◌∙◌, ap, subst, sym}
-use Rattle.std.specs.Option.{option_copied_mut}
-use Rattle.lock_server.specs.declared.files.Files.{Files}
-use Rattle.lock_server.specs.Clients.{is_within}
-use Rattle.lock_server.specs.TableView.{StripsLocksOn, entry_of, table_state}
+use Rattle.lock_server.proofs.Common.{◌∙◌, ap, subst, sym, option_copied_mut, Files, is_within, entry_of, table_state}
+use Rattle.lock_server.specs.TableView.{StripsLocksOn}
 use Rattle.lock_server.proofs.ClientLemmas.{strips_by, strips_nothing}
 use Rattle.lock_server.proofs.EntryMoves.{kept_indexed}
 use Rattle.lock_server.proofs.IndexLemmas.{file_written}

@@ -1,8 +1,4 @@
-use Rattle.std.proofs.Common.{◌≡◌, ◌∙◌, ap, sym, None, Some, Option}
-use Rattle.std.specs.Option.{option_copied}
-use Rattle.lock_server.specs.declared.file.LockFile.{LockFile}
-use Rattle.lock_server.specs.FileView.{state_at}
-use Rattle.lock_server.specs.FilesView.{entry_in}
+use Rattle.lock_server.proofs.Common.{◌≡◌, ◌∙◌, ap, sym, None, Some, Option, option_copied, LockFile, state_at, entry_in}
 use Rattle.lock_server.proofs.EntryMoves.{put_indexed}
 use Rattle.lock_server.proofs.table.Table.sweep.Goals as goal
 

@@ -1,10 +1,5 @@
 use Rattle.std.proofs.lemmas.Result.{IfOk-weaker}
-use Rattle.std.proofs.Common.{[], ◌∙◌, ap, Contains}
-use Rattle.lock_server.specs.Blockers.{AddsGoingOn, AddsOwners}
-use Rattle.lock_server.specs.Deadlock.{IsBlockedByOwner}
-use Rattle.lock_server.specs.LookedAt.{looked_modes}
-use Rattle.lock_server.specs.TableView.{table_state}
-use Rattle.lock_server.specs.declared.table.looked_at.LookedAt.{LookedAt}
+use Rattle.lock_server.proofs.Common.{[], ◌∙◌, ap, Contains, AddsGoingOn, AddsOwners, IsBlockedByOwner, looked_modes, table_state, LookedAt}
 use Rattle.lock_server.proofs.FollowLemmas.{told_none}
 use Rattle.lock_server.proofs.ReachedLemmas.{closes_cycle}
 use Rattle.lock_server.proofs.table.Table.would_cycle.Goals as goal

@@ -1,5 +1,4 @@
-use Rattle.std.proofs.Common.{refl}
-use Rattle.range_core.specs.Changes.{modes_of}
+use Rattle.lock_server.proofs.Common.{refl, modes_of}
 use Rattle.lock_server.proofs.LookedLemmas.{part_to_end, part_to_hit}
 use Rattle.lock_server.proofs.table.looked_at.first_part_lacking.Goals as goal
 

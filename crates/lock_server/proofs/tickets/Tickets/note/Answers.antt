@@ -1,6 +1,4 @@
-use Rattle.std.proofs.lemmas.Grind.{common_steps}
-use Rattle.std.proofs.Common.{arith, Some}
-use Rattle.lock_server.specs.declared.tickets.Place.TheVariants.{Reserved}
+use Rattle.lock_server.proofs.Common.{common_steps, arith, Some, Reserved}
 use Rattle.lock_server.proofs.TicketLemmas.{owed-few, owed-inserted, SetsPlace-updates}
 use Rattle.lock_server.proofs.tickets.Tickets.note.Goals as goal
 

@@ -1,7 +1,4 @@
-use Rattle.std.proofs.Common.{rules, [], ◌∷◌, length, subst, ℕ}
-use Rattle.lock_server.specs.Bytes.{number_words}
-use Rattle.lock_server.specs.TicketsView.{grants_of}
-use Rattle.lock_server.specs.Words.{Puts}
+use Rattle.lock_server.proofs.Common.{rules, [], ◌∷◌, length, subst, ℕ, number_words, grants_of, Puts}
 use Rattle.lock_server.proofs.WordLemmas.{items_more}
 use Rattle.lock_server.proofs.tickets.Tickets.put.Goals as goal
 

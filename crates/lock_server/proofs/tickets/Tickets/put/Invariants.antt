@@ -1,8 +1,4 @@
-use Rattle.std.proofs.Common.{◌∷◌, length, take}
-use Rattle.std.specs.List.{flat_map}
-use Rattle.lock_server.specs.Bytes.{number_words}
-use Rattle.lock_server.specs.TicketsView.{grants_of}
-use Rattle.lock_server.specs.Words.{Puts}
+use Rattle.lock_server.proofs.Common.{◌∷◌, length, take, flat_map, number_words, grants_of, Puts}
 use Rattle.lock_server.proofs.tickets.Tickets.put.Given as goal
 
 abbrev pub invariant-loop-i : goal.invariant-loop-i

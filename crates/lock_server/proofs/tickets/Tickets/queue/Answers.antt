@@ -1,5 +1,4 @@
-use Rattle.std.proofs.lemmas.Grind.{common_steps}
-use Rattle.std.proofs.Common.{arith}
+use Rattle.lock_server.proofs.Common.{common_steps, arith}
 use Rattle.lock_server.proofs.TicketLemmas.{owed-few, owed-queued}
 use Rattle.lock_server.proofs.tickets.Tickets.queue.Goals as goal
 

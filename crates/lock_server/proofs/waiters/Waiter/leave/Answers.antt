@@ -1,4 +1,4 @@
-use Rattle.std.proofs.Common.{◌∙◌, refl, sym}
+use Rattle.lock_server.proofs.Common.{◌∙◌, refl, sym}
 use Rattle.lock_server.proofs.WaiterLemmas.{LeavesFile-none, LeavesFile-removes}
 use Rattle.lock_server.proofs.waiters.Waiter.leave.Goals as goal
 

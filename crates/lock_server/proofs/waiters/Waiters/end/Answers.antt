@@ -1,4 +1,4 @@
-use Rattle.lock_server.specs.WaitersView.{waiter_of}
+use Rattle.lock_server.proofs.Common.{waiter_of}
 use Rattle.lock_server.proofs.WaiterLemmas.{Ends-left, waiter_written}
 use Rattle.lock_server.proofs.waiters.Waiters.end.Goals as goal
 

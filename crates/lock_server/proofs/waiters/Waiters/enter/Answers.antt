@@ -1,5 +1,4 @@
-use Rattle.std.proofs.Common.{arith, false}
-use Rattle.lock_server.specs.WaitersView.{waiter_of}
+use Rattle.lock_server.proofs.Common.{arith, false, waiter_of}
 use Rattle.lock_server.proofs.waiters.Waiters.enter.Goals as goal
 
 pub returns-clause-ok : goal.returns-clause-ok

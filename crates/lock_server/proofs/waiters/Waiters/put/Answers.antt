@@ -1,8 +1,4 @@
-use Rattle.std.proofs.Common.{arith, refl, [], ◌∷◌}
-use Rattle.std.specs.Prelude.{IsTrue}
-use Rattle.lock_server.specs.Bytes.{number_words}
-use Rattle.lock_server.specs.Inventory.{AreJust}
-use Rattle.lock_server.specs.WaitersView.{crossed_of}
+use Rattle.lock_server.proofs.Common.{arith, refl, [], ◌∷◌, IsTrue, number_words, AreJust, crossed_of}
 use Rattle.lock_server.proofs.JustLemmas.{just_alone}
 use Rattle.lock_server.proofs.WordLemmas.{counted}
 use Rattle.lock_server.proofs.waiters.Waiters.put.Goals as goal

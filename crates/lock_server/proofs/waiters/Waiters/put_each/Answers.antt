@@ -1,9 +1,4 @@
-use Rattle.std.proofs.Common.{◌≡◌, Some}
-use Rattle.std.specs.BTreeMap.{get}
-use Rattle.std.specs.Map.Iter.{deref_pair}
-use Rattle.std.specs.Ordering.{nat_cmp}
-use Rattle.std.proofs.lemmas.Map.Iter.{iter_end}
-use Rattle.lock_server.specs.Bytes.{number_words}
+use Rattle.lock_server.proofs.Common.{◌≡◌, Some, get, deref_pair, nat_cmp, iter_end, number_words}
 use Rattle.lock_server.proofs.ExportLemmas.{IsCrossedPiece, all_crossed, crossed_piece, uncrossed_piece}
 use Rattle.lock_server.proofs.WalkLemmas.{next_entry, walked_more, walked_none, walked_past}
 use Rattle.lock_server.proofs.waiters.Waiters.put_each.Goals as goal

@@ -1,4 +1,4 @@
-use Rattle.lock_server.specs.Bytes.{number_words}
+use Rattle.lock_server.proofs.Common.{number_words}
 use Rattle.lock_server.proofs.ExportLemmas.{IsCrossedPiece}
 use Rattle.lock_server.proofs.WalkLemmas.{Walked}
 use Rattle.lock_server.proofs.waiters.Waiters.put_each.Given as goal

@@ -1,7 +1,4 @@
-use Rattle.std.proofs.Common.{arith}
-use Rattle.lock_server.specs.declared.waiters.Waiter.{Waiter}
-use Rattle.lock_server.specs.declared.waiters.Waiters.{Waiters}
-use Rattle.lock_server.specs.WaitersView.{waiter_of}
+use Rattle.lock_server.proofs.Common.{arith, Waiter, Waiters, waiter_of}
 use Rattle.lock_server.proofs.WaiterLemmas.{waiter_written}
 use Rattle.lock_server.proofs.waiters.Waiters.reserve.Goals as goal
 

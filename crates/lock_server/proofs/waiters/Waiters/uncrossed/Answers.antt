@@ -1,4 +1,4 @@
-use Rattle.std.proofs.Common.{arith}
+use Rattle.lock_server.proofs.Common.{arith}
 use Rattle.lock_server.proofs.ForgetLemmas.{next_from_above}
 use Rattle.lock_server.proofs.waiters.Waiters.uncrossed.Goals as goal
 

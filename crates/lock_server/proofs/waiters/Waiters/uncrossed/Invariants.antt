@@ -1,8 +1,4 @@
-use Rattle.std.proofs.Common.{◌≡◌, ◌≢◌, ℕ, ◌-◌, ◌^◌, ◌<◌, [], false}
-use Rattle.std.specs.Prelude.{IsTrue}
-use Rattle.std.specs.BTreeSet.{contains}
-use Rattle.std.specs.Ordering.{nat_cmp}
-use Rattle.lock_server.specs.WaitersView.{crossed_of, files_of}
+use Rattle.lock_server.proofs.Common.{◌≡◌, ◌≢◌, ℕ, ◌-◌, ◌^◌, ◌<◌, [], false, IsTrue, contains, nat_cmp, crossed_of, files_of}
 use Rattle.lock_server.proofs.ForgetLemmas.{next_of}
 use Rattle.lock_server.proofs.waiters.Waiters.uncrossed.Given as goal
 

@@ -1,6 +1,5 @@
-use Rattle.std.proofs.Common.{rules, ◌≤◌, ℕ, ap, sym, ◌∙◌, subst, vec_len, arith}
-use Rattle.table_steps.specs.declared.client_view.ClientView.{ClientView}
-use Rattle.call_table.specs.Shown.{client_view, IsCollected, IsNothing}
+use Rattle.replay_core.proofs.Common.{rules, ◌≤◌, ℕ, ap, sym, ◌∙◌, subst, vec_len, arith, ClientView, client_view}
+use Rattle.call_table.specs.Shown.{IsCollected, IsNothing}
 use Rattle.replay_core.specs.Collecting.{AreCollected}
 use Rattle.replay_core.proofs.CollectingLemmas.{collected_one, collected_none, collected_fewer, first_within}
 use Rattle.replay_core.proofs.caller.Caller.collect.Goals as goal

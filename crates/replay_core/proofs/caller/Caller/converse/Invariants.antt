@@ -1,5 +1,6 @@
 use Rattle.call_table.specs.Shown.{IsClientOf}
-use Rattle.replay_core.specs.Callers.{SameCaller, WasTold}
+use Rattle.replay_core.proofs.Common.{SameCaller}
+use Rattle.replay_core.specs.Callers.{WasTold}
 use Rattle.replay_core.proofs.caller.Caller.converse.Given as goal
 
 abbrev pub invariant-loop : goal.invariant-loop

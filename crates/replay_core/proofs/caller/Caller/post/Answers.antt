@@ -1,5 +1,4 @@
-use Rattle.std.proofs.Common.{ap, sym, ◌∙◌}
-use Rattle.table_steps.specs.declared.client_view.ClientView.{ClientView}
+use Rattle.replay_core.proofs.Common.{ap, sym, ◌∙◌, ClientView}
 use Rattle.replay_core.proofs.caller.Caller.post.Goals as goal
 
 pub posted-requires-clause-posted : goal.posted-requires-clause-posted

@@ -1,4 +1,4 @@
-use Rattle.std.proofs.Common.{rules, refl, ◌≡◌, false, true, is_some}
+use Rattle.replay_core.proofs.Common.{rules, refl, ◌≡◌, false, true, is_some}
 use Rattle.replay_core.proofs.CheckingLemmas.{judged_before, may_end, may_not_end, is_unfound}
 use Rattle.replay_core.proofs.checking.Checking.end.Goals as goal
 

@@ -1,5 +1,4 @@
-use Rattle.std.proofs.Common.{rules, ◌≡◌, ◌<◌, false, true, length, is_some}
-use Rattle.std.proofs.lemmas.List.{nil_from_length}
+use Rattle.replay_core.proofs.Common.{rules, ◌≡◌, ◌<◌, false, true, length, is_some, nil_from_length}
 use Rattle.replay_core.proofs.CheckingLemmas.{found_before, no_last_line, last_line_where, is_unfound}
 use Rattle.replay_core.proofs.checking.Checking.end_last_line.Goals as goal
 

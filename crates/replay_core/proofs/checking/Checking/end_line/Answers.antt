@@ -1,4 +1,4 @@
-use Rattle.std.proofs.Common.{refl, subst, Err}
+use Rattle.replay_core.proofs.Common.{refl, subst, Err}
 use Rattle.script_core.specs.declared.journal.JournalFault.{JournalFault}
 use Rattle.script_core.specs.JournalView.{Takes}
 use Rattle.replay_core.proofs.CheckingLemmas.{line_taken, line_illegal, line_faulty}

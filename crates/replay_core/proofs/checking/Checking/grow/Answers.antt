@@ -1,4 +1,4 @@
-use Rattle.std.proofs.Common.{refl, arith, rules, ◌≤◌, ◌<◌, length}
+use Rattle.replay_core.proofs.Common.{refl, arith, rules, ◌≤◌, ◌<◌, length}
 use Rattle.script_core.specs.EntryReading.{entry_limit}
 use Rattle.replay_core.proofs.CheckingLemmas.{grown, outgrown, goes_on}
 use Rattle.replay_core.proofs.checking.Checking.grow.Goals as goal

@@ -1,4 +1,4 @@
-use Rattle.std.proofs.Common.{rules, refl, arith, ◌≡◌, true, is_some}
+use Rattle.replay_core.proofs.Common.{rules, refl, arith, ◌≡◌, true, is_some}
 use Rattle.replay_core.proofs.CheckingLemmas.{one_more, others_skipped}
 use Rattle.replay_core.proofs.checking.Checking.take_all.Goals as goal
 

@@ -1,5 +1,4 @@
-use Rattle.std.proofs.Common.{◌≤◌, ◌+◌, ◌++◌, ℕ, List, take}
-use Rattle.replay_core.specs.Checks.{HasChecked}
+use Rattle.replay_core.proofs.Common.{◌≤◌, ◌+◌, ◌++◌, ℕ, List, take, HasChecked}
 use Rattle.replay_core.proofs.checking.Checking.take_all.Given as goal
 
 abbrev pub invariant-loop-byte : goal.invariant-loop-byte

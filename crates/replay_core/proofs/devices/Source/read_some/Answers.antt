@@ -1,4 +1,5 @@
-use Rattle.std.proofs.Common.{ℕ, ◌<◌, Option, Some, List, [], ◌∷◌, length, slice_set, arith, subst}
+use Rattle.replay_core.proofs.Common.{ℕ, ◌<◌, Option, Some, List, [], ◌∷◌, length, arith, subst}
+use Rattle.std.proofs.Common.{slice_set}
 use Rattle.replay_core.specs.Devices.{GivesByte, GivesSome}
 use Rattle.replay_core.proofs.devices.Source.read_some.Goals as goal
 

@@ -1,4 +1,4 @@
-use Rattle.std.proofs.Common.{refl}
+use Rattle.script_core.proofs.Common.{refl}
 use Rattle.script_core.proofs.JournalSeamLemmas.{entry_taken}
 use Rattle.script_core.proofs.journal.JournalReader.check.Goals as goal
 

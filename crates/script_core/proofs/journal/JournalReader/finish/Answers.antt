@@ -1,5 +1,4 @@
-use Rattle.std.proofs.Common.{arith, ◌∙◌, sym}
-use Rattle.std.proofs.lemmas.Grind.{common_steps}
+use Rattle.script_core.proofs.Common.{arith, ◌∙◌, sym, common_steps}
 use Rattle.script_core.specs.JournalView.{is_spent}
 use Rattle.script_core.proofs.JournalSeamLemmas.{finish_cut, finish_whole}
 use Rattle.script_core.proofs.journal.JournalReader.finish.Goals as goal

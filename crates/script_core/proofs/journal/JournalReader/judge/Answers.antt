@@ -1,7 +1,5 @@
-use Rattle.std.proofs.Common.{Some, Err, refl, sym, ◌∙◌, ap, subst}
-use Rattle.std.proofs.lemmas.Result.{err_from_is_err_and}
-use Rattle.script_core.specs.JournalReading.{rules_at, processes_at}
-use Rattle.script_core.specs.JournalView.{HasChecked, HasReported, ReportsAt, AreLeft}
+use Rattle.script_core.proofs.Common.{Some, Err, refl, sym, ◌∙◌, ap, subst, err_from_is_err_and, rules_at, processes_at, AreLeft}
+use Rattle.script_core.specs.JournalView.{HasChecked, HasReported, ReportsAt}
 use Rattle.script_core.proofs.JournalSeamLemmas.{left_first, report_taken, report_refused}
 use Rattle.script_core.proofs.journal.JournalReader.judge.Goals as goal
 use Rattle.script_core.proofs.journal.JournalReader.judge.Goals.{in-Some, in-None+in_ok-report-in-None}

@@ -1,7 +1,5 @@
-use Rattle.std.proofs.Common.{Ok, subst, sym}
-use Rattle.std.proofs.lemmas.Result.{err_from_is_err_and}
-use Rattle.script_core.specs.JournalReading.{JournalLineGives}
-use Rattle.script_core.specs.JournalView.{place_of, TakesSaid}
+use Rattle.script_core.proofs.Common.{Ok, subst, sym, err_from_is_err_and, JournalLineGives, TakesSaid}
+use Rattle.script_core.specs.JournalView.{place_of}
 use Rattle.script_core.proofs.JournalLemmas.{one_meaning}
 use Rattle.script_core.proofs.JournalViewLemmas.{grammar_fault, line_given, text_fault, said_taken}
 use Rattle.script_core.proofs.journal.JournalReader.next.Goals as goal

@@ -1,6 +1,4 @@
-use Rattle.std.proofs.Common.{arith, Ok, subst}
-use Rattle.std.proofs.lemmas.Grind.{common_steps}
-use Rattle.script_core.specs.JournalReading.{JournalLineGives}
+use Rattle.script_core.proofs.Common.{arith, Ok, subst, common_steps, JournalLineGives}
 use Rattle.script_core.proofs.JournalStageLemmas.{said_fits}
 use Rattle.script_core.proofs.JournalSeamLemmas.{header_taken}
 use Rattle.script_core.proofs.journal.JournalReader.take.Goals as goal

@@ -1,7 +1,5 @@
-use Rattle.std.proofs.Common.{ℕ, ◌≡◌, ◌≤◌, ◌-◌, ◌∷◌, ◌++◌, ◌∙◌, ap, subst, drop, decimal, arith, lit<, append-nil, rules, length, length-set, List, set}
-use Rattle.std.proofs.lemmas.Fmt.{length-decimal-le}
-use Rattle.std.proofs.lemmas.Grind.{common_steps}
-use Rattle.script_core.specs.EntryText.{tag}
+use Rattle.script_core.proofs.Common.{ℕ, ◌≡◌, ◌≤◌, ◌-◌, ◌∷◌, ◌++◌, ◌∙◌, ap, subst, drop, decimal, arith, lit<, append-nil, rules, length, List, set, length-decimal-le, common_steps, tag}
+use Rattle.std.proofs.Common.{length-set}
 use Rattle.script_core.proofs.TextLemmas.{put_before}
 use Rattle.script_core.proofs.noted.Noted.new.Goals as goal
 

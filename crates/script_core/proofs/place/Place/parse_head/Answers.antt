@@ -1,4 +1,4 @@
-use Rattle.script_core.specs.Words.{words_of}
+use Rattle.script_core.proofs.Common.{words_of}
 use Rattle.script_core.proofs.JournalLemmas.{head_of_first, head_skipped}
 use Rattle.script_core.proofs.place.Place.parse_head.Goals as goal
 

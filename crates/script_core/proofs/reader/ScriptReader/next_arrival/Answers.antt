@@ -1,6 +1,5 @@
-use Rattle.std.proofs.Common.{◌∙◌, subst, arith}
-use Rattle.std.proofs.lemmas.Grind.{common_steps}
-use Rattle.script_core.specs.ScriptView.{HasRead, with_next}
+use Rattle.script_core.proofs.Common.{◌∙◌, subst, arith, common_steps, HasRead}
+use Rattle.script_core.specs.ScriptView.{with_next}
 use Rattle.script_core.proofs.reader.ScriptReader.next_arrival.Goals as goal
 
 pub returns-in-Some-clause-next : goal.returns-in-Some-clause-next

@@ -1,6 +1,5 @@
-use Rattle.std.proofs.Common.{◌≡◌, ℕ, ◌≤◌, ◌++◌, ◌∷◌, [], List, length}
-use Rattle.lock_manager.specs.declared.request.Request.{Request}
-use Rattle.script_core.specs.ScriptView.{HasRead, unread_in, rules_in}
+use Rattle.script_core.proofs.Common.{◌≡◌, ℕ, ◌≤◌, ◌++◌, ◌∷◌, [], List, length, Request, HasRead}
+use Rattle.script_core.specs.ScriptView.{unread_in, rules_in}
 use Rattle.script_core.proofs.reader.ScriptReader.next_arrival.Given as goal
 
 -- no arrival came

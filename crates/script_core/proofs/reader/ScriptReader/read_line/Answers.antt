@@ -1,8 +1,6 @@
-use Rattle.std.proofs.Common.{◌++◌, ◌∷◌, [], ◌∙◌, Ok, ap, subst, sym, arith}
+use Rattle.script_core.proofs.Common.{◌++◌, ◌∷◌, [], ◌∙◌, Ok, ap, subst, sym, arith, LineGives, limits_of, meaning_of, reading_after, IsProcess, HasRead, reading_of}
 use Rattle.script_core.specs.declared.line.Line.TheVariants as lines
-use Rattle.script_core.specs.Reading.{LineGives, limits_of, meaning_of, reading_after}
-use Rattle.script_core.specs.ScriptText.{IsProcess}
-use Rattle.script_core.specs.ScriptView.{HasRead, rules_in, lines_in, reading_of}
+use Rattle.script_core.specs.ScriptView.{rules_in, lines_in}
 use Rattle.script_core.proofs.ProcessLemmas.{arrival_said, rules_kept}
 use Rattle.script_core.proofs.ScriptLemmas.{fault_next, at_hand_next, some_arrival, some_behind}
 use Rattle.script_core.proofs.reader.ScriptReader.read_line.Goals as goal

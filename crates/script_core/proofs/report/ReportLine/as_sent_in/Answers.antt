@@ -1,4 +1,4 @@
-use Rattle.std.proofs.Common.{arith}
+use Rattle.script_core.proofs.Common.{arith}
 use Rattle.script_core.proofs.ReportReadingLemmas.{no_sent, sent_less, is_sent_in}
 use Rattle.script_core.proofs.report.ReportLine.as_sent_in.Goals as goal
 

@@ -1,4 +1,4 @@
-use Rattle.std.proofs.Common.{rules}
+use Rattle.script_core.proofs.Common.{rules}
 use Rattle.script_core.proofs.ReportReadingLemmas.{few_first}
 use Rattle.script_core.proofs.report.ReportReader.new.Goals as goal
 

@@ -1,4 +1,4 @@
-use Rattle.std.proofs.Common.{rules}
+use Rattle.script_core.proofs.Common.{rules}
 use Rattle.script_core.proofs.StateLemmas.{zero_asks_for_none}
 use Rattle.script_core.proofs.states.States.of_word.Goals as goal
 

@@ -1,6 +1,4 @@
-use Rattle.std.proofs.Common.{◌≡◌, ◌≤◌, ℕ, drop}
-use Rattle.session_core.specs.Mail.{answers_in}
-use Rattle.session_core.specs.LastAnswers.{latest, processes_in, last_of}
+use Rattle.session_core.proofs.Common.{◌≡◌, ◌≤◌, ℕ, drop, answers_in, latest, processes_in, last_of}
 use Rattle.session_core.proofs.answers.LastAnswers.tell.Given as goal
 
 -- with the answers among the notes that are left, it comes to what all of them make of what was known

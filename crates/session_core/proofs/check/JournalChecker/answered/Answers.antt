@@ -1,4 +1,4 @@
-use Rattle.session_core.specs.Checking.{HasRepeated}
+use Rattle.session_core.proofs.Common.{HasRepeated}
 use Rattle.session_core.proofs.check.JournalChecker.answered.Goals as goal
 
 pub returns : goal.returns

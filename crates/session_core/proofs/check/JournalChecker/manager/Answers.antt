@@ -1,4 +1,4 @@
-use Rattle.session_core.specs.Checking.{HasRepeated}
+use Rattle.session_core.proofs.Common.{HasRepeated}
 use Rattle.session_core.proofs.runs.ReplayLemmas.{after_made}
 use Rattle.session_core.proofs.check.JournalChecker.manager.Goals as goal
 

@@ -1,6 +1,6 @@
-use Rattle.std.proofs.Common.{subst, refl}
+use Rattle.session_core.proofs.Common.{subst, refl, HasRepeated}
 use Rattle.session_core.specs.Replaying.{Repeats}
-use Rattle.session_core.specs.Checking.{HasRepeated, expected_by}
+use Rattle.session_core.specs.Checking.{expected_by}
 use Rattle.session_core.proofs.runs.ReplayLemmas.{run_of}
 use Rattle.session_core.proofs.check.JournalChecker.next.Goals as goal
 

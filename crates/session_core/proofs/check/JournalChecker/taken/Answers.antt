@@ -1,5 +1,4 @@
-use Rattle.std.proofs.Common.{◌∙◌}
-use Rattle.session_core.specs.Checking.{HasRepeated}
+use Rattle.session_core.proofs.Common.{◌∙◌, HasRepeated}
 use Rattle.session_core.proofs.check.JournalChecker.taken.Goals as goal
 
 pub returns : goal.returns

@@ -1,5 +1,4 @@
-use Rattle.std.proofs.Common.{◌≡◌, ◌∙◌, ap, rules, length}
-use Rattle.session_core.specs.Mail.{answers_to}
+use Rattle.session_core.proofs.Common.{◌≡◌, ◌∙◌, ap, rules, length, answers_to}
 use Rattle.session_core.proofs.LastLemmas.{number_in}
 use Rattle.session_core.proofs.runs.ReplayLemmas.{answered_made}
 use Rattle.session_core.proofs.check.Replay.answered.Goals as goal

@@ -1,4 +1,5 @@
-use Rattle.std.proofs.Common.{◌≡◌, rules, replicate}
+use Rattle.session_core.proofs.Common.{◌≡◌, rules}
+use Rattle.std.proofs.Common.{replicate}
 use Rattle.session_core.proofs.runs.ReplayLemmas.{HasMade-opening}
 use Rattle.session_core.proofs.check.Replay.new.Goals as goal
 

@@ -1,4 +1,4 @@
-use Rattle.std.proofs.Common.{◌≡◌, ◌≢◌, ◌∙◌, ap, sym, subst, refl, false, true}
+use Rattle.session_core.proofs.Common.{◌≡◌, ◌≢◌, ◌∙◌, ap, sym, subst, refl, false, true}
 use Rattle.session_core.specs.Replaying.{Makes}
 use Rattle.session_core.proofs.runs.ReplayLemmas.{Repeats-out_of_turn, Repeats-other_notes}
 use Rattle.session_core.proofs.check.Replay.repeats.Goals as goal

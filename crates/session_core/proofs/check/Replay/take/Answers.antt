@@ -1,10 +1,4 @@
-use Rattle.std.proofs.Common.{◌≡◌, ◌∙◌, ap, subst, set, ◌-◌}
-use Rattle.lock_manager.specs.State.{State}
-use Rattle.lock_manager.specs.Step.{Step}
-use Rattle.lock_manager.specs.ManagerView.{StandsFor, rules_of, processes_of}
-use Rattle.session_core.specs.Event.{Event}
-use Rattle.session_core.specs.Mail.{answers_in}
-use Rattle.session_core.specs.LastAnswers.{latest, last_of}
+use Rattle.session_core.proofs.Common.{◌≡◌, ◌∙◌, ap, subst, set, ◌-◌, State, Step, StandsFor, rules_of, processes_of, Event, answers_in, latest, last_of}
 use Rattle.session_core.proofs.runs.ReplayLemmas.{Makes-told}
 use Rattle.session_core.proofs.check.Replay.take.Goals as goal
 

@@ -1,6 +1,4 @@
-use Rattle.std.proofs.Common.{◌≡◌, rules, length}
-use Rattle.session_core.specs.Mail.{answers_to}
-use Rattle.session_core.specs.SequencerView.{HasTold}
+use Rattle.session_core.proofs.Common.{◌≡◌, rules, length, answers_to, HasTold}
 use Rattle.session_core.proofs.LastLemmas.{number_in, last_number}
 use Rattle.session_core.proofs.sequencer.Sequencer.answered.Goals as goal
 

@@ -1,10 +1,5 @@
-use Rattle.std.proofs.lemmas.Grind.{common_steps}
-use Rattle.std.proofs.Common.{◌≡◌, ◌∙◌, ◌+◌, ◌≤◌, refl, sym, arith, length, [], ◌∷◌, ◌++◌, eq-eqb, ne_eqb}
+use Rattle.session_core.proofs.Common.{common_steps, ◌≡◌, ◌∙◌, ◌+◌, ◌≤◌, refl, sym, arith, length, [], ◌∷◌, ◌++◌, eq-eqb, ne_eqb, length-set, ∥∥₁_map, processes_of, manager_in, sent_by, waiting_at, HasTold}
 use Rattle.std.proofs.lemmas.Result.{IfOk-weaker, IfErr-weaker}
-use Rattle.std.proofs.lemmas.List.{length-set}
-use Rattle.std.proofs.Math.Logic.{∥∥₁_map}
-use Rattle.lock_manager.specs.ManagerView.{processes_of}
-use Rattle.session_core.specs.SequencerView.{manager_in, sent_by, waiting_at, HasTold}
 use Rattle.session_core.proofs.MailLemmas.{StandsAt-index, IsMailInside-set, IsMailKept-written, mailbox_of-there, mailbox_of-set_same, mail_sent-kept, mail_sent-pushed, mail_waiting-set, length-mail_sent-there, Holds-sent}
 use Rattle.session_core.proofs.runs.JournalLemmas.{mail_sent-few}
 use Rattle.session_core.proofs.sequencer.Sequencer.arrive.Goals as goal

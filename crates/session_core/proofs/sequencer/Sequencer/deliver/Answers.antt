@@ -1,7 +1,4 @@
-use Rattle.std.proofs.Common.{rules, ◌≡◌, ◌∙◌, ap, [], ◌∷◌, ◌++◌}
-use Rattle.lock_manager.specs.declared.request.ProcState.TheVariants.{Live}
-use Rattle.lock_manager.specs.ManagerView.{state_at}
-use Rattle.session_core.specs.SequencerView.{manager_in, HasNoMail}
+use Rattle.session_core.proofs.Common.{rules, ◌≡◌, ◌∙◌, ap, [], ◌∷◌, ◌++◌, Live, state_at, manager_in, HasNoMail}
 use Rattle.session_core.proofs.runs.SequencerLemmas.{Delivers-arrived, Delivers-passed, RunsOn-delivered, delivers_anyhow}
 use Rattle.session_core.proofs.sequencer.Sequencer.deliver.Goals as goal
 

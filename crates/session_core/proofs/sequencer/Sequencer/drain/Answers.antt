@@ -1,7 +1,6 @@
-use Rattle.std.proofs.Common.{◌∙◌, [], ◌∷◌, ◌++◌, append_assoc}
+use Rattle.session_core.proofs.Common.{◌∙◌, [], ◌∷◌, ◌++◌, processes_of, manager_in, waiting_at}
+use Rattle.std.proofs.Common.{append_assoc}
 use Rattle.std.proofs.lemmas.Option.{slice_get_within}
-use Rattle.lock_manager.specs.ManagerView.{processes_of}
-use Rattle.session_core.specs.SequencerView.{manager_in, waiting_at}
 use Rattle.session_core.proofs.runs.SequencerLemmas.{TakesOf-push, waiting_left-taken}
 use Rattle.session_core.proofs.sequencer.Sequencer.drain.Goals as goal
 

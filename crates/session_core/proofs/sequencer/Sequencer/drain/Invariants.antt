@@ -1,6 +1,4 @@
-use Rattle.std.proofs.Common.{◌≡◌}
-use Rattle.lock_manager.specs.ManagerView.{processes_of}
-use Rattle.session_core.specs.SequencerView.{manager_in, waiting_at}
+use Rattle.session_core.proofs.Common.{◌≡◌, processes_of, manager_in, waiting_at}
 use Rattle.session_core.specs.Deliveries.{TellsSome}
 use Rattle.session_core.proofs.runs.SequencerLemmas.{waiting_left}
 use Rattle.session_core.proofs.sequencer.Sequencer.drain.Given as goal

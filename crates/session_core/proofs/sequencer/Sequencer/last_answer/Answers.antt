@@ -1,6 +1,5 @@
-use Rattle.session_core.specs.SequencerView.{HasTold}
+use Rattle.session_core.proofs.Common.{HasTold, ◌∙◌}
 use Rattle.session_core.proofs.LastLemmas.{last_is}
-use Rattle.std.proofs.Common.{◌∙◌}
 use Rattle.session_core.proofs.sequencer.Sequencer.last_answer.Goals as goal
 
 pub returns : goal.returns

@@ -1,10 +1,5 @@
 use Rattle.std.proofs.lemmas.Grind.{merely}
-use Rattle.std.proofs.Common.{◌∙◌, sym, ap, arith, length, refl, subst, slice_get, []}
-use Rattle.std.specs.Prelude.{IsNone}
-use Rattle.lock_manager.specs.State.{opening_state}
-use Rattle.lock_manager.specs.ManagerView.{processes_of}
-use Rattle.session_core.specs.Mailboxes.{IsMailKept}
-use Rattle.session_core.specs.SequencerView.{manager_in, sent_by, waiting_at, HasTold}
+use Rattle.session_core.proofs.Common.{◌∙◌, sym, ap, arith, length, refl, subst, slice_get, [], IsNone, opening_state, processes_of, IsMailKept, manager_in, sent_by, waiting_at, HasTold}
 use Rattle.session_core.proofs.MailLemmas.{few_processes}
 use Rattle.session_core.proofs.runs.JournalLemmas.{Holds-opening, nothing_sent, mail_sent-few}
 use Rattle.session_core.proofs.sequencer.Sequencer.new.Goals as goal

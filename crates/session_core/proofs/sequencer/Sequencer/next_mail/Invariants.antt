@@ -1,4 +1,4 @@
-use Rattle.lock_manager.specs.ManagerView.{state_at}
+use Rattle.session_core.proofs.Common.{state_at}
 use Rattle.wait_core.specs.Processes.{lacking}
 use Rattle.session_core.proofs.MailLemmas.{HaveNoMail}
 use Rattle.session_core.proofs.sequencer.Sequencer.next_mail.Given as goal

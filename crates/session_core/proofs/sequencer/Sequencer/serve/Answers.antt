@@ -1,11 +1,4 @@
-use Rattle.std.proofs.Common.{◌∙◌, ap, sym, subst, refl, ◌+◌, ◌≤◌, ℕ}
-use Rattle.session_core.specs.Event.{Event}
-use Rattle.session_core.specs.Mail.{answers_in}
-use Rattle.session_core.specs.LastAnswers.{latest, last_of, processes_in, AreLastAnswers}
-use Rattle.lock_manager.specs.State.{State}
-use Rattle.lock_manager.specs.ManagerView.{StandsFor, rules_of, processes_of}
-use Rattle.session_core.specs.Runs.{IsStep}
-use Rattle.session_core.specs.SequencerView.{manager_in, sent_by, HasTold}
+use Rattle.session_core.proofs.Common.{◌∙◌, ap, sym, subst, refl, ◌+◌, ◌≤◌, ℕ, Event, answers_in, latest, last_of, processes_in, AreLastAnswers, State, StandsFor, rules_of, processes_of, IsStep, manager_in, sent_by, HasTold}
 use Rattle.session_core.proofs.MailLemmas.{OnErr-always}
 use Rattle.session_core.proofs.runs.JournalLemmas.{AreTold-same}
 use Rattle.session_core.proofs.LastLemmas.{AreLastAnswers-push}

@@ -1,9 +1,4 @@
-use Rattle.std.proofs.Common.{◌∙◌, ap, sym, subst, refl, arith, ◌≡◌, ◌≤◌, eq-eqb, ne_eqb, Some, slice_get}
-use Rattle.std.proofs.lemmas.List.{length-set}
-use Rattle.lock_manager.specs.ManagerView.{processes_of}
-use Rattle.session_core.specs.Mailboxes.{mail_sent, mail_waiting}
-use Rattle.session_core.specs.SequencerView.{manager_in, sent_by, waiting_at, HasTold}
-use Rattle.session_core.specs.Told.{AreTold}
+use Rattle.session_core.proofs.Common.{◌∙◌, ap, sym, subst, refl, arith, ◌≡◌, ◌≤◌, eq-eqb, ne_eqb, Some, slice_get, length-set, processes_of, mail_sent, mail_waiting, manager_in, sent_by, waiting_at, HasTold, AreTold}
 use Rattle.session_core.proofs.MailLemmas.{StandsAt-index, IsMailInside-set, next_untaken-waits, waits_first, waiting_dropped}
 use Rattle.session_core.proofs.runs.JournalLemmas.{AreTold-taken, mail_sent-took}
 use Rattle.session_core.proofs.sequencer.Sequencer.take.Goals as goal

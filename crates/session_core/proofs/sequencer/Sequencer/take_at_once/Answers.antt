@@ -1,10 +1,4 @@
-use Rattle.std.proofs.Common.{◌∙◌, ap, sym, subst, arith, slice_get, [], ◌∷◌, ◌++◌}
-use Rattle.std.specs.Prelude.{IsNone, ◌==◌, if◌then◌else◌}
-use Rattle.std.proofs.lemmas.Grind.{common_steps}
-use Rattle.std.proofs.lemmas.List.{length-set}
-use Rattle.session_core.specs.Mailboxes.{mail_sent, mail_waiting}
-use Rattle.session_core.specs.SequencerView.{manager_in, sent_by, waiting_at, HasTold}
-use Rattle.session_core.specs.Told.{AreTold}
+use Rattle.session_core.proofs.Common.{◌∙◌, ap, sym, subst, arith, slice_get, [], ◌∷◌, ◌++◌, IsNone, ◌==◌, if◌then◌else◌, common_steps, length-set, mail_sent, mail_waiting, manager_in, sent_by, waiting_at, HasTold, AreTold}
 use Rattle.session_core.proofs.MailLemmas.{StandsAt-index, IsMailInside-set, HasMail-there, mailbox_of-there, mail_waiting-kept, none_waits, length-mail_sent-there}
 use Rattle.session_core.proofs.runs.JournalLemmas.{AreTold-passed, mail_sent-passed}
 use Rattle.session_core.proofs.sequencer.Sequencer.take_at_once.Goals as goal

@@ -1,8 +1,4 @@
-use Rattle.std.proofs.Common.{arith, ◌∙◌}
-use Rattle.std.proofs.lemmas.Grind.{common_steps}
-use Rattle.std.proofs.lemmas.List.{length-set}
-use Rattle.std.proofs.Math.Logic.{∥∥₁_map}
-use Rattle.session_core.specs.SequencerView.{manager_in, sent_by, waiting_at, HasTold}
+use Rattle.session_core.proofs.Common.{arith, ◌∙◌, common_steps, length-set, ∥∥₁_map, manager_in, sent_by, waiting_at, HasTold}
 use Rattle.session_core.proofs.MailLemmas.{StandsAt-index, IsMailInside-set, IsMailKept-written, HasMail-there, mail_sent-withdrawn, some_waits, Holds-sent}
 use Rattle.session_core.proofs.runs.JournalLemmas.{mail_sent-few}
 use Rattle.session_core.proofs.sequencer.Sequencer.withdraw.Goals as goal

@@ -1,7 +1,5 @@
-use Rattle.std.proofs.Common.{arith}
-use Rattle.std.proofs.lemmas.Grind.{common_steps}
+use Rattle.session_core.proofs.Common.{arith, common_steps, events_in}
 use Rattle.std.proofs.lemmas.Cmp.{ranked}
-use Rattle.session_core.specs.SessionView.{events_in}
 use Rattle.session_core.proofs.LastLemmas.{last_found, last_past_all, none_found}
 use Rattle.session_core.proofs.SessionLemmas.{session_holds}
 use Rattle.session_core.proofs.session.Session.answer_of.Goals as goal

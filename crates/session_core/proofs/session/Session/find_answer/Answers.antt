@@ -1,7 +1,4 @@
-use Rattle.std.proofs.Common.{arith, ◌≡◌, ◌∙◌, ap, sym, Some}
-use Rattle.std.proofs.lemmas.Grind.{common_steps}
-use Rattle.session_core.specs.Mail.{answers_in, answers_to, reply_among}
-use Rattle.session_core.specs.SessionView.{events_in}
+use Rattle.session_core.proofs.Common.{arith, ◌≡◌, ◌∙◌, ap, sym, Some, common_steps, answers_in, answers_to, reply_among, events_in}
 use Rattle.session_core.proofs.AnswerLemmas.{reply_to-skip, reply_to-hit}
 use Rattle.session_core.proofs.session.Session.find_answer.Goals as goal
 

@@ -1,5 +1,4 @@
-use Rattle.std.proofs.Common.{◌≡◌, ◌+◌, drop}
-use Rattle.session_core.specs.Mail.{answers_from, answers_to, reply_among}
+use Rattle.session_core.proofs.Common.{◌≡◌, ◌+◌, drop, answers_from, answers_to, reply_among}
 use Rattle.session_core.proofs.session.Session.find_answer.Given as goal
 
 -- what isn't found in the entries so far is what the others say

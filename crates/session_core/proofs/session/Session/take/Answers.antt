@@ -1,4 +1,4 @@
-use Rattle.std.proofs.Common.{◌∙◌, sym}
+use Rattle.session_core.proofs.Common.{◌∙◌, sym}
 use Rattle.session_core.proofs.SessionLemmas.{next_is_first}
 use Rattle.session_core.proofs.session.Session.take.Goals as goal
 

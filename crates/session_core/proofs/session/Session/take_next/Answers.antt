@@ -1,6 +1,4 @@
-use Rattle.std.proofs.Common.{arith}
-use Rattle.std.proofs.lemmas.Grind.{common_steps}
-use Rattle.session_core.specs.SessionView.{manager_of}
+use Rattle.session_core.proofs.Common.{arith, common_steps, manager_of}
 use Rattle.session_core.proofs.SessionLemmas.{session_holds, next_is_first, none_below, none_left, TakesOne-request}
 use Rattle.session_core.proofs.session.Session.take_next.Goals as goal
 

@@ -1,7 +1,6 @@
-use Rattle.std.proofs.Common.{◌∙◌, refl, sym}
+use Rattle.session_core.proofs.Common.{◌∙◌, refl, sym, manager_of, events_in, sent_of}
 use Rattle.std.proofs.lemmas.Result.{IfOk-weaker, IfErr-weaker}
 use Rattle.session_core.proofs.MailLemmas.{SameSession-withdrawn, TakesRequest-arrived}
-use Rattle.session_core.specs.SessionView.{manager_of, events_in, sent_of}
 use Rattle.session_core.proofs.SessionLemmas.{session_holds, waits_still}
 use Rattle.session_core.proofs.session.Session.take_one.Goals as goal
 

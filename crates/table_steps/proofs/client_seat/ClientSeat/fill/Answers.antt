@@ -1,11 +1,7 @@
-use Rattle.std.proofs.Common.{rules}
-use mathlib.Core.Option.{none}
+use Rattle.table_steps.proofs.Common.{rules, none, ClientView, client_of, words_table, words_setup, client_at, client_knows}
 use Rattle.atomic_table.specs.Table as tables
-use Rattle.table_steps.specs.declared.client_view.ClientView.{ClientView}
-use Rattle.table_steps.specs.Views.{client_of}
 use Rattle.table_steps.specs.Steps.{client_filled}
 use Rattle.table_steps.proofs.SeatLemmas.{client_is, client_own, fill_as}
-use Rattle.table_steps.specs.Shown.{words_table, words_setup, client_at, client_knows}
 use Rattle.table_steps.proofs.client_seat.ClientSeat.fill.Goals as goal
 
 pub store-requires : goal.store-requires

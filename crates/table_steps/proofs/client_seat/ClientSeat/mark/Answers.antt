@@ -1,14 +1,9 @@
-use Rattle.std.proofs.Common.{ℕ, ◌<◌, sym, subst}
-use mathlib.Core.Option.{none}
+use Rattle.table_steps.proofs.Common.{ℕ, ◌<◌, sym, subst, none, ClientView, client_of, mark, words_table, words_setup, client_at, client_knows}
 use Rattle.atomic_table.specs.Table as tables
-use Rattle.table_steps.specs.declared.client_view.ClientView.{ClientView}
-use Rattle.table_steps.specs.Views.{client_of}
-use Rattle.table_steps.specs.Places.{mark}
 use Rattle.table_steps.specs.Steps.{client_marked}
 use Rattle.table_steps.proofs.PlacesLaws.{inside}
 use Rattle.table_steps.proofs.Collecting.{may_mark}
 use Rattle.table_steps.proofs.SeatLemmas.{client_is, client_own}
-use Rattle.table_steps.specs.Shown.{words_table, words_setup, client_at, client_knows}
 use Rattle.table_steps.proofs.client_seat.ClientSeat.mark.Goals as goal
 
 pub load-requires : goal.load-requires

@@ -1,11 +1,6 @@
-use Rattle.std.proofs.Common.{rules, ◌+◌, refl}
-use mathlib.Core.Option.{none}
+use Rattle.table_steps.proofs.Common.{rules, ◌+◌, refl, none, ClientView, client_of, client_posted, words_table, words_setup, client_at, client_knows}
 use Rattle.atomic_table.specs.Table as tables
-use Rattle.table_steps.specs.declared.client_view.ClientView.{ClientView}
-use Rattle.table_steps.specs.Views.{client_of}
-use Rattle.table_steps.specs.Steps.{client_posted}
 use Rattle.table_steps.proofs.SeatLemmas.{client_is, client_own, has_posted, publish_as}
-use Rattle.table_steps.specs.Shown.{words_table, words_setup, client_at, client_knows}
 use Rattle.table_steps.proofs.client_seat.ClientSeat.publish.Goals as goal
 
 pub store-requires : goal.store-requires

@@ -1,14 +1,8 @@
-use Rattle.std.proofs.Common.{ℕ, ◌<◌, true, sym, subst}
-use mathlib.Core.Option.{none}
+use Rattle.table_steps.proofs.Common.{ℕ, ◌<◌, true, sym, subst, none, Setup, DeskView, desk_of, mark, IsProcess, words_table, words_setup, client_at, client_knows, desk_at, desk_knows}
 use Rattle.atomic_table.specs.Table as tables
-use Rattle.table_steps.specs.declared.setup.Setup.{Setup}
-use Rattle.table_steps.specs.declared.desk_view.DeskView.{DeskView}
-use Rattle.table_steps.specs.Views.{desk_of}
-use Rattle.table_steps.specs.Places.{mark, IsProcess}
 use Rattle.table_steps.proofs.PlacesLaws.{inside}
 use Rattle.table_steps.proofs.Publishing.{may_close}
 use Rattle.table_steps.proofs.SeatLemmas.{desk_is, desk_own}
-use Rattle.table_steps.specs.Shown.{words_table, words_setup, client_at, client_knows, desk_at, desk_knows}
 use Rattle.table_steps.proofs.desk_seat.DeskSeat.close.Goals as goal
 
 pub store-requires : goal.store-requires

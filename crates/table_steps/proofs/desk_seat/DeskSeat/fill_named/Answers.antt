@@ -1,11 +1,7 @@
-use Rattle.std.proofs.Common.{rules, ℕ, subst}
-use mathlib.Core.Option.{none}
+use Rattle.table_steps.proofs.Common.{rules, ℕ, subst, none, DeskView, desk_of, HasDesk, words_table, words_setup, client_at, client_knows, desk_at, desk_knows}
 use Rattle.atomic_table.specs.Table as tables
-use Rattle.table_steps.specs.declared.desk_view.DeskView.{DeskView}
-use Rattle.table_steps.specs.Views.{desk_of}
-use Rattle.table_steps.specs.Steps.{HasDesk, desk_filled}
+use Rattle.table_steps.specs.Steps.{desk_filled}
 use Rattle.table_steps.proofs.SeatLemmas.{desk_is, desk_own, fill_answer_as}
-use Rattle.table_steps.specs.Shown.{words_table, words_setup, client_at, client_knows, desk_at, desk_knows}
 use Rattle.table_steps.proofs.desk_seat.DeskSeat.fill_named.Goals as goal
 
 pub store-requires : goal.store-requires

@@ -1,10 +1,6 @@
-use Rattle.std.proofs.Common.{rules}
+use Rattle.table_steps.proofs.Common.{rules, DeskView, desk_of, desk_looked, words_table, words_setup, client_at, client_knows, desk_at, desk_knows}
 use Rattle.atomic_table.specs.Table as tables
-use Rattle.table_steps.specs.declared.desk_view.DeskView.{DeskView}
-use Rattle.table_steps.specs.Views.{desk_of}
-use Rattle.table_steps.specs.Steps.{desk_looked}
 use Rattle.table_steps.proofs.SeatLemmas.{desk_is, desk_own, look_as, looked_as}
-use Rattle.table_steps.specs.Shown.{words_table, words_setup, client_at, client_knows, desk_at, desk_knows}
 use Rattle.table_steps.proofs.desk_seat.DeskSeat.look.Goals as goal
 
 pub load-requires : goal.load-requires

@@ -1,12 +1,7 @@
-use Rattle.std.proofs.Common.{ℕ, ◌+◌, ◌<◌, sym, subst}
+use Rattle.table_steps.proofs.Common.{ℕ, ◌+◌, ◌<◌, sym, subst, DeskView, desk_of, mark, new_client, words_table, words_setup, client_at, client_knows, desk_at, desk_knows}
 use Rattle.atomic_table.specs.Table as tables
-use Rattle.table_steps.specs.declared.desk_view.DeskView.{DeskView}
-use Rattle.table_steps.specs.Views.{desk_of}
-use Rattle.table_steps.specs.Places.{mark}
-use Rattle.table_steps.specs.Views.{new_client}
 use Rattle.table_steps.proofs.PlacesLaws.{inside}
 use Rattle.table_steps.proofs.SeatLemmas.{client_is, client_own, client_next, desk_is, desk_own, desk_next, make_as}
-use Rattle.table_steps.specs.Shown.{words_table, words_setup, client_at, client_knows, desk_at, desk_knows}
 use Rattle.table_steps.proofs.desk_seat.DeskSeat.new_client.Goals as goal
 
 pub split_seat-seat-requires : goal.split_seat-seat-requires

@@ -1,11 +1,7 @@
-use Rattle.std.proofs.Common.{rules}
-use mathlib.Core.Option.{none}
+use Rattle.table_steps.proofs.Common.{rules, none, DeskView, desk_of, words_table, words_setup, client_at, client_knows, desk_at, desk_knows}
 use Rattle.atomic_table.specs.Table as tables
-use Rattle.table_steps.specs.declared.desk_view.DeskView.{DeskView}
-use Rattle.table_steps.specs.Views.{desk_of}
 use Rattle.table_steps.specs.Steps.{desk_read}
 use Rattle.table_steps.proofs.SeatLemmas.{desk_is, desk_own, read_as}
-use Rattle.table_steps.specs.Shown.{words_table, words_setup, client_at, client_knows, desk_at, desk_knows}
 use Rattle.table_steps.proofs.desk_seat.DeskSeat.read.Goals as goal
 
 pub load-requires : goal.load-requires

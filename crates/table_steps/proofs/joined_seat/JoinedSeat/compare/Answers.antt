@@ -1,12 +1,8 @@
-use Rattle.std.proofs.Common.{ℕ, ◌<◌, sym, ap, subst}
-use mathlib.Core.Option.{none}
+use Rattle.table_steps.proofs.Common.{ℕ, ◌<◌, sym, ap, subst, none, mark, desk_of, client_of, before_of, Seated, words_table, client_at, client_knows, desk_at, desk_knows, joined_at, joined_desk, joined_client, joined_before}
 use Rattle.atomic_table.specs.Table as tables
-use Rattle.table_steps.specs.Places.{mark}
-use Rattle.table_steps.specs.Views.{desk_of, client_of, before_of}
-use Rattle.table_steps.specs.Steps.{Seated, HasBoth}
+use Rattle.table_steps.specs.Steps.{HasBoth}
 use Rattle.table_steps.proofs.PlacesLaws.{inside}
 use Rattle.table_steps.proofs.Joining.{may_compare}
-use Rattle.table_steps.specs.Shown.{words_table, client_at, client_knows, desk_at, desk_knows, joined_at, joined_desk, joined_client, joined_before}
 use Rattle.table_steps.proofs.joined_seat.JoinedSeat.compare.Goals as goal
 
 pub load-requires : goal.load-requires

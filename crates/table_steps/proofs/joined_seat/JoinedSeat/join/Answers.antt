@@ -1,13 +1,7 @@
-use Rattle.std.proofs.Common.{rules, ℕ, ◌<◌, sym, ap, subst}
+use Rattle.table_steps.proofs.Common.{rules, ℕ, ◌<◌, sym, ap, subst, ClientView, DeskView, mark, desk_of, client_of, before_of, Seated, met_desk, met_client, before_meeting, words_table, client_at, client_knows, desk_at, desk_knows, joined_at, joined_desk, joined_client, joined_before}
 use Rattle.atomic_table.specs.Table as tables
-use Rattle.table_steps.specs.declared.client_view.ClientView.{ClientView}
-use Rattle.table_steps.specs.declared.desk_view.DeskView.{DeskView}
-use Rattle.table_steps.specs.Places.{mark}
-use Rattle.table_steps.specs.Views.{desk_of, client_of, before_of}
-use Rattle.table_steps.specs.Steps.{Seated, met_desk, met_client, before_meeting}
 use Rattle.table_steps.proofs.PlacesLaws.{inside}
 use Rattle.table_steps.proofs.SeatLemmas.{both_own, join_as, joined_is}
-use Rattle.table_steps.specs.Shown.{words_table, client_at, client_knows, desk_at, desk_knows, joined_at, joined_desk, joined_client, joined_before}
 use Rattle.table_steps.proofs.joined_seat.JoinedSeat.join.Goals as goal
 
 pub join_seat-requires : goal.join_seat-requires

@@ -1,11 +1,7 @@
-use Rattle.std.proofs.Common.{ℕ, ◌<◌, sym, subst}
+use Rattle.table_steps.proofs.Common.{ℕ, ◌<◌, sym, subst, mark, desk_of, client_of, before_of, Seated, words_table, client_at, client_knows, desk_at, desk_knows, joined_at, joined_desk, joined_client, joined_before}
 use Rattle.atomic_table.specs.Table as tables
-use Rattle.table_steps.specs.Places.{mark}
-use Rattle.table_steps.specs.Views.{desk_of, client_of, before_of}
-use Rattle.table_steps.specs.Steps.{Seated}
 use Rattle.table_steps.proofs.PlacesLaws.{inside}
 use Rattle.table_steps.proofs.SeatLemmas.{client_is, desk_is, desk_own, part_as, parted_is, other_is}
-use Rattle.table_steps.specs.Shown.{words_table, client_at, client_knows, desk_at, desk_knows, joined_at, joined_desk, joined_client, joined_before}
 use Rattle.table_steps.proofs.joined_seat.JoinedSeat.part.Goals as goal
 
 pub split_seat-other-requires : goal.split_seat-other-requires

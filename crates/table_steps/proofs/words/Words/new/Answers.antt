@@ -1,7 +1,5 @@
-use Rattle.std.proofs.Common.{arith}
-use Rattle.std.proofs.lemmas.Grind.{common_steps}
+use Rattle.table_steps.proofs.Common.{arith, common_steps, words_table, words_setup, desk_at, desk_knows}
 use Rattle.table_steps.proofs.Joining.{opens}
-use Rattle.table_steps.specs.Shown.{words_table, words_setup, desk_at, desk_knows}
 use Rattle.table_steps.proofs.words.Words.new.Goals as goal
 
 pub of_words-requires : goal.of_words-requires

@@ -1,7 +1,4 @@
-use Rattle.std.proofs.Common.{◌∙◌, ap, suc}
-use Rattle.wait_core.specs.declared.processes.ProcessSet.{ProcessSet}
-use Rattle.wait_core.specs.Files.{has_file}
-use Rattle.wait_core.specs.Processes.{is_member}
+use Rattle.wait_core.proofs.Common.{◌∙◌, ap, suc, ProcessSet, has_file, is_member}
 use Rattle.wait_core.proofs.ProcessLemmas.{none_in}
 use Rattle.wait_core.proofs.files.FileSet.empty.Goals as goal
 

@@ -1,7 +1,4 @@
-use Rattle.std.proofs.lemmas.Grind.{common_steps}
-use Rattle.std.proofs.Common.{arith}
-use Rattle.std.proofs.lemmas.Bool.{cases_lt}
-use Rattle.wait_core.specs.PairsView.{pair_in}
+use Rattle.wait_core.proofs.Common.{common_steps, arith, cases_lt, pair_in}
 use Rattle.wait_core.proofs.PairLemmas.{none_past}
 use Rattle.wait_core.proofs.pairs.Pairs.all_told.Goals as goal
 

@@ -1,6 +1,4 @@
-use Rattle.std.proofs.Common.{ℕ, ◌<◌, get_or}
-use Rattle.std.specs.Prelude.{IsTrue}
-use Rattle.wait_core.specs.Processes.{is_member, no_process}
+use Rattle.wait_core.proofs.Common.{ℕ, ◌<◌, get_or, IsTrue, is_member, no_process}
 use Rattle.wait_core.proofs.pairs.Pairs.all_told.Given as goal
 
 -- those of the rows so far

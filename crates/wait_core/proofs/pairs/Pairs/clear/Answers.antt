@@ -1,11 +1,6 @@
-use Rattle.std.proofs.lemmas.Grind.{common_steps}
-use Rattle.std.proofs.Common.{◌≡◌, ◌∙◌, ap, sym, subst, arith, false, List, length, get_or}
-use Rattle.std.specs.Prelude.{◌==◌, if◌then◌else◌}
+use Rattle.wait_core.proofs.Common.{common_steps, ◌≡◌, ◌∙◌, ap, sym, subst, arith, false, List, length, get_or, ◌==◌, if◌then◌else◌, ProcessSet, pair_in, is_member, no_process}
 use Rattle.std.specs.Vec.{vec_len}
 use Rattle.std.proofs.lemmas.List.{with_items_is}
-use Rattle.wait_core.specs.declared.processes.ProcessSet.{ProcessSet}
-use Rattle.wait_core.specs.PairsView.{pair_in}
-use Rattle.wait_core.specs.Processes.{is_member, no_process}
 use Rattle.wait_core.proofs.PairLemmas.{cleared_all, cleared_more, left_more}
 use Rattle.wait_core.proofs.pairs.Pairs.clear.Goals as goal
 

@@ -1,8 +1,5 @@
-use Rattle.std.proofs.Common.{◌≡◌, ◌∙◌, ap, sym, subst, get_or, replicate, List}
-use Rattle.std.specs.Prelude.{IsTrue}
-use Rattle.wait_core.specs.declared.processes.ProcessSet.{ProcessSet}
-use Rattle.wait_core.specs.PairsView.{pair_in}
-use Rattle.wait_core.specs.Processes.{is_member, no_process}
+use Rattle.wait_core.proofs.Common.{◌≡◌, ◌∙◌, ap, sym, subst, get_or, List, IsTrue, ProcessSet, pair_in, is_member, no_process}
+use Rattle.std.proofs.Common.{replicate}
 use Rattle.wait_core.proofs.PairLemmas.{none_in_rows}
 use Rattle.wait_core.proofs.pairs.Pairs.new.Goals as goal
 

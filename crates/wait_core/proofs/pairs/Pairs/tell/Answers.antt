@@ -1,6 +1,4 @@
-use Rattle.std.proofs.lemmas.Grind.{common_steps}
-use Rattle.std.proofs.Common.{arith}
-use Rattle.wait_core.specs.PairsView.{pair_in}
+use Rattle.wait_core.proofs.Common.{common_steps, arith, pair_in}
 use Rattle.wait_core.proofs.PairLemmas.{put_row}
 use Rattle.wait_core.proofs.pairs.Pairs.tell.Goals as goal
 

@@ -1,11 +1,4 @@
-use Rattle.std.proofs.Common.{ℕ, ◌≡◌, ◌≢◌, ◌∙◌, refl, sym, subst, length}
-use Rattle.std.specs.Map.Iter.{deref}
-use Rattle.std.proofs.lemmas.Map.Iter.{iter_end}
-use Rattle.std.proofs.lemmas.Map.Views.{All-turn}
-use Rattle.wait_core.specs.declared.Wait.{Wait}
-use Rattle.wait_core.specs.Locks.{locks_of}
-use Rattle.wait_core.specs.PairsView.{TellsWait}
-use Rattle.wait_core.specs.WellFormed.{IsWellFormed}
+use Rattle.wait_core.proofs.Common.{ℕ, ◌≡◌, ◌≢◌, ◌∙◌, refl, sym, subst, length, deref, iter_end, All-turn, Wait, locks_of, TellsWait, IsWellFormed}
 use Rattle.wait_core.proofs.FileLemmas.{turn}
 use Rattle.wait_core.proofs.PairLemmas.{Before, before_more, before_all, tells_still}
 use Rattle.wait_core.proofs.pairs.Pairs.tell_all.Goals as goal

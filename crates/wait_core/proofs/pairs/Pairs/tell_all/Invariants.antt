@@ -1,6 +1,4 @@
-use Rattle.std.proofs.Common.{ℕ, ◌≡◌, ◌≢◌, All, length}
-use Rattle.wait_core.specs.Locks.{locks_of}
-use Rattle.wait_core.specs.PairsView.{pair_in, TellsWait}
+use Rattle.wait_core.proofs.Common.{ℕ, ◌≡◌, ◌≢◌, All, length, locks_of, pair_in, TellsWait}
 use Rattle.wait_core.proofs.PairLemmas.{Before}
 use Rattle.wait_core.proofs.pairs.Pairs.tell_all.Given as goal
 

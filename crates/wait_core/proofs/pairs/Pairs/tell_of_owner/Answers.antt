@@ -1,8 +1,4 @@
-use Rattle.std.proofs.Common.{ℕ, ◌≡◌, ◌∙◌, ap, sym, subst, All}
-use Rattle.lock_book.specs.declared.Owner.TheVariants.{Process}
-use Rattle.wait_core.specs.Locks.{locks_of}
-use Rattle.wait_core.specs.Pairs.{IsOn}
-use Rattle.wait_core.specs.PairsView.{TellsPair}
+use Rattle.wait_core.proofs.Common.{ℕ, ◌≡◌, ◌∙◌, ap, sym, subst, All, Process, locks_of, IsOn, TellsPair}
 use Rattle.wait_core.proofs.PairLemmas.{one_process}
 use Rattle.wait_core.proofs.pairs.Pairs.tell_of_owner.Goals as goal
 

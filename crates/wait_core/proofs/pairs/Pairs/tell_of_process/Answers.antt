@@ -1,14 +1,5 @@
-use Rattle.std.proofs.Common.{ℕ, ◌≡◌, ◌∙◌, Some, ap, sym, subst, length, slice_get}
-use Rattle.std.specs.Map.Iter.{deref}
-use Rattle.std.proofs.lemmas.Map.Iter.{iter_end}
-use Rattle.std.proofs.lemmas.Map.Views.{All-turn}
-use Rattle.std.proofs.lemmas.Option.{slice_get-get_or}
-use Rattle.lock_book.specs.declared.Owner.TheVariants.{Process}
-use Rattle.wait_core.specs.declared.Wait.{Wait}
-use Rattle.wait_core.specs.Locks.{byte_modes_at, locks_of}
-use Rattle.wait_core.specs.Pairs.{IsOff, IsOn}
-use Rattle.wait_core.specs.PairsView.{TellsPair}
-use Rattle.wait_core.specs.WellFormed.{IsWellFormed}
+use Rattle.wait_core.proofs.Common.{ℕ, ◌≡◌, ◌∙◌, Some, ap, sym, subst, length, deref, iter_end, All-turn, slice_get-get_or, Process, Wait, byte_modes_at, locks_of, IsOff, IsOn, TellsPair, IsWellFormed}
+use Rattle.std.proofs.Common.{slice_get}
 use Rattle.wait_core.proofs.FileLemmas.{turn}
 use Rattle.wait_core.proofs.PairLemmas.{Before, before_more, before_skip, before_all, tells_still}
 use Rattle.wait_core.proofs.pairs.Pairs.tell_of_process.Goals as goal

@@ -1,7 +1,4 @@
-use Rattle.std.proofs.Common.{ℕ, ◌≡◌, ◌≤◌, All, length}
-use Rattle.wait_core.specs.Locks.{locks_of}
-use Rattle.wait_core.specs.Pairs.{IsOff, IsOn}
-use Rattle.wait_core.specs.PairsView.{pair_in, TellsPair}
+use Rattle.wait_core.proofs.Common.{ℕ, ◌≡◌, ◌≤◌, All, length, locks_of, IsOff, IsOn, pair_in, TellsPair}
 use Rattle.wait_core.proofs.PairLemmas.{Before}
 use Rattle.wait_core.proofs.pairs.Pairs.tell_of_process.Given as goal
 

@@ -1,6 +1,4 @@
-use Rattle.std.proofs.Common.{arith}
-use Rattle.std.proofs.lemmas.Grind.{common_steps}
-use Rattle.wait_core.specs.PairsView.{pair_in}
+use Rattle.wait_core.proofs.Common.{arith, common_steps, pair_in}
 use Rattle.wait_core.proofs.pairs.Pairs.tell_pair.Goals as goal
 
 pub returns-clause-told : goal.returns-clause-told

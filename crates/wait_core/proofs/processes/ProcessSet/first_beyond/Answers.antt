@@ -1,4 +1,5 @@
-use Rattle.std.proofs.Common.{◌<◌, arith, w64, bit_and}
+use Rattle.wait_core.proofs.Common.{◌<◌, arith}
+use Rattle.std.proofs.Common.{w64, bit_and}
 use Rattle.std.specs.Int.{bit_not, trailing_zeros}
 use Rattle.std.proofs.lemmas.Nat.{and_le_r}
 use Rattle.std.proofs.lemmas.Nat.Bits.{bit_at-trailing_zeros}

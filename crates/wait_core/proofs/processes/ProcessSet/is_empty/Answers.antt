@@ -1,8 +1,5 @@
-use Rattle.std.proofs.Common.{◌≡◌, ◌∙◌, ap, arith}
-use Rattle.wait_core.specs.declared.processes.ProcessSet.{ProcessSet}
-use Rattle.wait_core.specs.Processes.{is_member, no_process}
+use Rattle.wait_core.proofs.Common.{◌≡◌, ◌∙◌, ap, arith, ProcessSet, is_member, no_process, eqb-true}
 use Rattle.wait_core.proofs.ProcessLemmas.{none_in, same_word, some_in}
-use Rattle.std.proofs.lemmas.Bool.{eqb-true}
 use Rattle.wait_core.proofs.processes.ProcessSet.is_empty.Goals as goal
 
 pub returns-clause-none : goal.returns-clause-none

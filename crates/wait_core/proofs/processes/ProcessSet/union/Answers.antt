@@ -1,4 +1,4 @@
-use Rattle.std.proofs.Common.{refl}
+use Rattle.wait_core.proofs.Common.{refl}
 use Rattle.wait_core.proofs.ProcessLemmas.{member_union}
 use Rattle.wait_core.proofs.processes.ProcessSet.union.Goals as goal
 

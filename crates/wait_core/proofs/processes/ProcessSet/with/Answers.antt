@@ -1,4 +1,5 @@
-use Rattle.std.proofs.Common.{◌-◌, arith, refl}
+use Rattle.wait_core.proofs.Common.{arith, refl}
+use Rattle.std.proofs.Common.{◌-◌}
 use Rattle.wait_core.proofs.ProcessLemmas.{member_inserted, grown}
 use Rattle.wait_core.proofs.processes.ProcessSet.with.Goals as goal
 

@@ -1,6 +1,6 @@
-use Rattle.std.proofs.Common.{rules, ℕ, ◌≡◌, ◌∙◌, ap, sym, subst, Option, Some, ◌∷◌, length}
+use Rattle.wait_core.proofs.Common.{rules, ℕ, ◌≡◌, ◌∙◌, ap, sym, subst, Option, Some, ◌∷◌, length, IsLed, follow}
 use Rattle.std.specs.Option.{option_copied}
-use Rattle.wait_core.specs.Links.{IsLed, follow, row_at}
+use Rattle.wait_core.specs.Links.{row_at}
 use Rattle.wait_core.proofs.LinkLemmas.{led_step}
 use Rattle.wait_core.proofs.queues.FileWaitsIterator.next.Goals as goal
 

@@ -1,8 +1,4 @@
-use Rattle.std.proofs.Common.{rules, ℕ, ◌≡◌, ◌∙◌, subst, arith, Option, Some}
-use Rattle.std.specs.Prelude.{◌==◌, if◌then◌else◌}
-use Rattle.std.proofs.lemmas.Bool.Decides.{nat_tests}
-use Rattle.std.proofs.lemmas.Grind.{common_steps}
-use Rattle.wait_core.specs.Queues.{latest_on, links_in}
+use Rattle.wait_core.proofs.Common.{rules, ℕ, ◌≡◌, ◌∙◌, subst, arith, Option, Some, ◌==◌, if◌then◌else◌, nat_tests, common_steps, latest_on, links_in}
 use Rattle.wait_core.proofs.LinkLemmas.{Joins, first_joined, lead_joined}
 use Rattle.wait_core.proofs.queues.Queues.join.Goals as goal
 

@@ -1,7 +1,4 @@
-use Rattle.std.proofs.Common.{◌≡◌, ◌∙◌, ap, arith, List, Any}
-use Rattle.std.proofs.lemmas.Grind.{common_steps}
-use Rattle.wait_core.specs.declared.Wait.{Wait}
-use Rattle.wait_core.specs.Queues.{latest_on, links_in}
+use Rattle.wait_core.proofs.Common.{◌≡◌, ◌∙◌, ap, arith, List, Any, common_steps, Wait, latest_on, links_in}
 use Rattle.wait_core.proofs.AnyLemmas.{Any-weaker}
 use Rattle.wait_core.proofs.LinkLemmas.{first_left, lead_left}
 use Rattle.wait_core.proofs.queues.Queues.leave.Goals as goal

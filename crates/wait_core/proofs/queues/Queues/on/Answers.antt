@@ -1,7 +1,5 @@
-use Rattle.std.proofs.Common.{ℕ, ◌≡◌, ◌∙◌, sym, subst, Option, List}
-use Rattle.wait_core.specs.declared.Wait.{Wait}
-use Rattle.wait_core.specs.Links.{IsLed, first_process, follow, row_at}
-use Rattle.wait_core.specs.Queues.{latest_on, links_in}
+use Rattle.wait_core.proofs.Common.{ℕ, ◌≡◌, ◌∙◌, sym, subst, Option, List, Wait, IsLed, first_process, follow, latest_on, links_in}
+use Rattle.wait_core.specs.Links.{row_at}
 use Rattle.wait_core.proofs.LinkLemmas.{followed, led}
 use Rattle.wait_core.proofs.queues.Queues.on.Goals as goal
 

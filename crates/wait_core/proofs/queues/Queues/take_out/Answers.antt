@@ -1,7 +1,4 @@
-use Rattle.std.proofs.Common.{arith}
-use Rattle.std.proofs.lemmas.Bool.Decides.{nat_tests}
-use Rattle.std.proofs.lemmas.Grind.{common_steps}
-use Rattle.wait_core.specs.Queues.{links_in}
+use Rattle.wait_core.proofs.Common.{arith, nat_tests, common_steps, links_in}
 use Rattle.wait_core.proofs.queues.Queues.take_out.Goals as goal
 
 pub returns-clause-left : goal.returns-clause-left

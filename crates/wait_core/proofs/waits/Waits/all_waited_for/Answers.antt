@@ -1,10 +1,4 @@
-use Rattle.std.proofs.Common.{◌≤◌, ◌∙◌, inl, inr, subst, arith}
-use Rattle.std.proofs.lemmas.Bool.{or_left, or_right}
-use Rattle.wait_core.specs.declared.Policy.{Policy}
-use Rattle.wait_core.specs.declared.Policy.TheVariants.{Held, Queue}
-use Rattle.wait_core.specs.Cycles.{WaitsFor}
-use Rattle.wait_core.specs.Processes.{is_member}
-use Rattle.wait_core.specs.WaitsView.{waits_of, policy_of, has_pair}
+use Rattle.wait_core.proofs.Common.{◌≤◌, ◌∙◌, inl, inr, subst, arith, or_left, or_right, Policy, Held, Queue, WaitsFor, is_member, waits_of, policy_of, has_pair}
 use Rattle.wait_core.proofs.QueueLemmas.{queue_known, queue_cases}
 use Rattle.wait_core.proofs.ReachLemmas.{waiting_known}
 use Rattle.wait_core.proofs.waits.Waits.all_waited_for.Goals as goal

@@ -1,14 +1,4 @@
-use Rattle.std.proofs.Common.{◌↔◌, ◌∙◌, inl, inr, List, All, Any, subst, sym}
-use Rattle.std.specs.Prelude.{IsTrue}
-use Rattle.std.proofs.lemmas.Bool.{or_left, or_right}
-use Rattle.wait_core.specs.declared.Policy.{Policy}
-use Rattle.wait_core.specs.declared.Wait.{Wait}
-use Rattle.wait_core.specs.Cycles.{IsBlockedByProcess}
-use Rattle.wait_core.specs.Locks.{locks_of}
-use Rattle.wait_core.specs.Pairs.{IsConflictOf}
-use Rattle.wait_core.specs.Processes.{is_member}
-use Rattle.wait_core.specs.WaitsView.{waits_of, policy_of}
-use Rattle.wait_core.specs.WellFormed.{IsWellFormed}
+use Rattle.wait_core.proofs.Common.{◌↔◌, ◌∙◌, inl, inr, List, All, Any, subst, sym, IsTrue, or_left, or_right, Policy, Wait, IsBlockedByProcess, locks_of, IsConflictOf, is_member, waits_of, policy_of, IsWellFormed}
 use Rattle.wait_core.proofs.FileLemmas.{conflicts_of_on, well_formed_on}
 use Rattle.wait_core.proofs.ProcessLemmas.{or_cases}
 use Rattle.wait_core.proofs.waits.Waits.blockers.Goals as goal

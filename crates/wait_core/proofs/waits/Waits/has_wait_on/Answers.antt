@@ -1,12 +1,6 @@
-use Rattle.std.proofs.Common.{rules, refl, List, Any, ◌↔◌, subst}
+use Rattle.wait_core.proofs.Common.{rules, refl, List, Any, ◌↔◌, subst, IsTrue, cases_from_any, Wait, Bytes, Meet, waits_of}
 use borrow.Author.Tests.{tests}
-use Rattle.std.specs.Prelude.{IsTrue}
-use Rattle.std.proofs.lemmas.Iterator.{cases_from_any}
 use Rattle.std.proofs.lemmas.Iterator.Consumers.{YieldsList-from_rest}
-use Rattle.wait_core.specs.declared.Wait.{Wait}
-use Rattle.wait_core.specs.declared.Family.TheVariants.{Bytes}
-use Rattle.wait_core.specs.Blocking.{Meet}
-use Rattle.wait_core.specs.WaitsView.{waits_of}
 use Rattle.wait_core.proofs.FileLemmas.{any_from_cases, meets_on}
 use Rattle.wait_core.proofs.waits.Waits.has_wait_on.Goals as goal
 

@@ -1,13 +1,6 @@
 use borrow.Author.Tests.{tests}
-use Rattle.std.proofs.Common.{rules, ◌≡◌, ◌∙◌, ◌↔◌, ap, sym, subst, true, false, Any, take, get_or}
-use Rattle.std.specs.Prelude.{IsTrue}
-use Rattle.std.proofs.lemmas.Iterator.{cases_from_any, YieldsList-from_slice}
-use Rattle.std.proofs.lemmas.List.{get_or_default}
-use Rattle.std.proofs.lemmas.Option.{get_or_from_slice_get}
-use Rattle.wait_core.specs.declared.Wait.{Wait}
-use Rattle.wait_core.specs.Blocking.{WaitsConflict}
-use Rattle.wait_core.specs.Processes.{is_member}
-use Rattle.wait_core.specs.WaitsView.{waits_of, policy_of}
+use Rattle.wait_core.proofs.Common.{rules, ◌≡◌, ◌∙◌, ◌↔◌, ap, sym, subst, true, false, Any, take, get_or, IsTrue, cases_from_any, get_or_default, get_or_from_slice_get, Wait, WaitsConflict, is_member, waits_of, policy_of}
+use Rattle.std.proofs.lemmas.Iterator.{YieldsList-from_slice}
 use Rattle.wait_core.proofs.BehindLemmas.{behind_none_at}
 use Rattle.wait_core.proofs.FileLemmas.{any_from_cases}
 use Rattle.wait_core.proofs.waits.Waits.is_behind.Goals as goal

@@ -1,10 +1,5 @@
-use Rattle.std.proofs.Common.{◌≡◌, ◌∙◌, [], arith, false, get_or, subst, sym}
-use Rattle.std.proofs.lemmas.Grind.{common_steps}
-use Rattle.std.proofs.lemmas.List.{get_or_default}
-use Rattle.std.proofs.lemmas.Option.{get_or_from_slice_get}
-use Rattle.wait_core.specs.Locks.{locks_of}
+use Rattle.wait_core.proofs.Common.{◌≡◌, ◌∙◌, [], arith, false, get_or, subst, sym, common_steps, get_or_default, get_or_from_slice_get, locks_of, waits_of, policy_of}
 use Rattle.wait_core.specs.Settled.{IsKnown}
-use Rattle.wait_core.specs.WaitsView.{waits_of, policy_of}
 use Rattle.wait_core.proofs.DecideLemmas.{blocked_known}
 use Rattle.wait_core.proofs.SettledLemmas.{blocked_at}
 use Rattle.wait_core.proofs.waits.Waits.is_blocked_among.Goals as goal

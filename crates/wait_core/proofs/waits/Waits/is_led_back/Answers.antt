@@ -1,11 +1,4 @@
-use Rattle.std.proofs.lemmas.Grind.{common_steps}
-use Rattle.std.proofs.Common.{ℕ, ◌≤◌, ◌∙◌, inl, inr, sym, subst, arith}
-use Rattle.std.specs.Prelude.{IsTrue, ◌==◌}
-use Rattle.std.proofs.lemmas.Bool.{eqb-true, or_left, or_right}
-use Rattle.wait_core.specs.Locks.{locks_of}
-use Rattle.wait_core.specs.Cycles.{WaitsFor}
-use Rattle.wait_core.specs.Processes.{is_member}
-use Rattle.wait_core.specs.WaitsView.{waits_of, policy_of, processes_of}
+use Rattle.wait_core.proofs.Common.{common_steps, ℕ, ◌≤◌, ◌∙◌, inl, inr, sym, subst, arith, IsTrue, ◌==◌, eqb-true, or_left, or_right, locks_of, WaitsFor, is_member, waits_of, policy_of, processes_of}
 use Rattle.wait_core.proofs.DecideLemmas.{told_known}
 use Rattle.wait_core.proofs.ProcessLemmas.{none_in, or_cases}
 use Rattle.wait_core.proofs.ReachLemmas.{blocked_reached, reach_step, reached_closes, closes_reached}

@@ -1,9 +1,5 @@
-use Rattle.std.proofs.Common.{ℕ, ◌≤◌}
-use Rattle.std.specs.Prelude.{IsTrue}
-use Rattle.wait_core.specs.Locks.{locks_of}
-use Rattle.wait_core.specs.Cycles.{IsBlockedByProcess, WaitsFor}
-use Rattle.wait_core.specs.Processes.{is_member, lacking}
-use Rattle.wait_core.specs.WaitsView.{waits_of, policy_of}
+use Rattle.wait_core.proofs.Common.{ℕ, ◌≤◌, IsTrue, locks_of, IsBlockedByProcess, WaitsFor, is_member, waits_of, policy_of}
+use Rattle.wait_core.specs.Processes.{lacking}
 use Rattle.wait_core.proofs.ReachLemmas.{IsReached, LeadsInside}
 use Rattle.wait_core.proofs.waits.Waits.is_led_back.Given as goal
 

@@ -1,6 +1,4 @@
-use Rattle.std.proofs.Common.{◌≡◌, ◌∙◌, [], true, false, subst, sym}
-use Rattle.wait_core.specs.WaitsView.{waits_of, policy_of}
-use Rattle.wait_core.specs.Settled.{AllBlockedElsewhere, changed_files}
+use Rattle.wait_core.proofs.Common.{◌≡◌, ◌∙◌, [], true, false, subst, sym, waits_of, policy_of, AllBlockedElsewhere, changed_files}
 use Rattle.wait_core.proofs.SettledLemmas.{among_more, elsewhere_joined, elsewhere_more}
 use Rattle.wait_core.proofs.waits.Waits.join.Goals as goal
 

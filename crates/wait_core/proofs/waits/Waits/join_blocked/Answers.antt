@@ -1,7 +1,4 @@
-use Rattle.std.proofs.Common.{arith}
-use Rattle.std.proofs.lemmas.Grind.{common_steps}
-use Rattle.wait_core.specs.WaitsView.{waits_of, policy_of}
-use Rattle.wait_core.specs.Settled.{changed_files}
+use Rattle.wait_core.proofs.Common.{arith, common_steps, waits_of, policy_of, changed_files}
 use Rattle.wait_core.proofs.SettledLemmas.{elsewhere_joined}
 use Rattle.wait_core.proofs.waits.Waits.join_blocked.Goals as goal
 

@@ -1,20 +1,9 @@
-use Rattle.std.proofs.Common.{◌≢◌, ◌≤◌, ◌∙◌, inl, inr, [], List, ap, arith, length, not, refl, subst, sym}
-use Rattle.std.proofs.lemmas.Bool.{cases_eq}
-use Rattle.std.proofs.lemmas.Grind.{common_steps}
-use Rattle.std.specs.Prelude.{◌==◌}
+use Rattle.wait_core.proofs.Common.{◌≢◌, ◌≤◌, ◌∙◌, inl, inr, [], List, ap, arith, length, not, refl, subst, sym, cases_eq, common_steps, ◌==◌, ∥∥₁_map, Wait, TellsQueue, IsWellFormed, AreQueues, links_in, waits_on, AreThoseWaiting, waits_of, policy_of, has_pair, AllBlockedElsewhere, changed_files}
 use Rattle.std.specs.Vec.{vec_capacity}
-use Rattle.std.proofs.Math.Logic.{∥∥₁_map}
 use Rattle.std.proofs.lemmas.List.Elements.{All-filter}
 use Rattle.std.proofs.lemmas.List.Quantifiers.{position-Some}
 use Rattle.std.proofs.lemmas.List.Kept.{AllPairs-filter}
-use Rattle.wait_core.specs.declared.Wait.{Wait}
 use Rattle.wait_core.specs.Pairs.{IsBehindNone}
-use Rattle.wait_core.specs.PairsView.{TellsQueue}
-use Rattle.wait_core.specs.WellFormed.{IsWellFormed}
-use Rattle.wait_core.specs.Queues.{AreQueues, links_in, waits_on}
-use Rattle.wait_core.specs.Processes.{AreThoseWaiting}
-use Rattle.wait_core.specs.WaitsView.{waits_of, policy_of, has_pair}
-use Rattle.wait_core.specs.Settled.{AllBlockedElsewhere, changed_files}
 use Rattle.wait_core.proofs.FileLemmas.{fewer_left, none_left, queues_left}
 use Rattle.wait_core.proofs.ListLemmas.{no_wait, none_taken, taken_at}
 use Rattle.wait_core.proofs.PairLemmas.{told-leave}

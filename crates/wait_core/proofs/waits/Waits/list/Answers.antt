@@ -1,4 +1,4 @@
-use Rattle.wait_core.specs.WaitsView.{waits_of, processes_of}
+use Rattle.wait_core.proofs.Common.{waits_of, processes_of}
 use Rattle.wait_core.proofs.ListLemmas.{room_for}
 use Rattle.wait_core.proofs.waits.Waits.list.Goals as goal
 

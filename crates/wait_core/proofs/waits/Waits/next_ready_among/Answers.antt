@@ -1,6 +1,4 @@
-use Rattle.std.proofs.lemmas.Grind.{common_steps}
-use Rattle.std.proofs.Common.{arith}
-use Rattle.wait_core.specs.WaitsView.{waits_of}
+use Rattle.wait_core.proofs.Common.{common_steps, arith, waits_of}
 use Rattle.wait_core.proofs.ListLemmas.{blocked_so_far, first_ready, found_itself}
 use Rattle.wait_core.proofs.waits.Waits.next_ready_among.Goals as goal
 

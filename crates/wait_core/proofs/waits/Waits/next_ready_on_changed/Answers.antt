@@ -1,12 +1,5 @@
-use Rattle.std.proofs.Common.{[], inl, inr, get_or}
-use Rattle.std.specs.Prelude.{IsFalse}
-use Rattle.std.proofs.Math.Logic.{∥∥₁_map}
-use Rattle.std.proofs.lemmas.List.{get_or_default}
-use Rattle.wait_core.specs.declared.Wait.{Wait}
-use Rattle.wait_core.specs.Files.{has_file}
-use Rattle.wait_core.specs.Locks.{locks_of}
-use Rattle.wait_core.specs.Settled.{IsKnown, changed_files}
-use Rattle.wait_core.specs.WaitsView.{waits_of, policy_of}
+use Rattle.wait_core.proofs.Common.{[], inl, inr, get_or, IsFalse, ∥∥₁_map, get_or_default, Wait, has_file, locks_of, changed_files, waits_of, policy_of}
+use Rattle.wait_core.specs.Settled.{IsKnown}
 use Rattle.wait_core.proofs.DecideLemmas.{blocked_known, told_known}
 use Rattle.wait_core.proofs.SettledLemmas.{all_where, blocked_more, told_blocked}
 use Rattle.wait_core.proofs.waits.Waits.next_ready_on_changed.Goals as goal

@@ -1,10 +1,7 @@
-use Rattle.std.proofs.Common.{◌∙◌, rules}
-use Rattle.std.specs.Prelude.{◌==◌}
+use Rattle.wait_core.proofs.Common.{◌∙◌, rules, ◌==◌, Wait, waits_of}
 use borrow.Author.Tests.{tests}
 use Rattle.std.proofs.lemmas.Iterator.{YieldsList-from_slice}
 use Rattle.std.proofs.lemmas.Iterator.Search.{find_from_yields_List}
-use Rattle.wait_core.specs.declared.Wait.{Wait}
-use Rattle.wait_core.specs.WaitsView.{waits_of}
 use Rattle.wait_core.proofs.waits.Waits.of.Goals as goal
 
 pub returns-clause-found : goal.returns-clause-found

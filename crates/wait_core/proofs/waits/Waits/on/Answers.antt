@@ -1,5 +1,4 @@
-use Rattle.wait_core.specs.Queues.{waits_on}
-use Rattle.wait_core.specs.WaitsView.{waits_of}
+use Rattle.wait_core.proofs.Common.{waits_on, waits_of}
 use Rattle.wait_core.proofs.FileLemmas.{length_on}
 use Rattle.wait_core.proofs.waits.Waits.on.Goals as goal
 

@@ -1,15 +1,7 @@
-use Rattle.std.proofs.Common.{◌≡◌, ◌≢◌, ◌<◌, ◌≤◌, [], ◌∷◌, List, All, subst, sym, arith, length, length-append}
+use Rattle.wait_core.proofs.Common.{◌≡◌, ◌≢◌, ◌<◌, ◌≤◌, [], ◌∷◌, List, All, subst, sym, arith, length, ∥∥₁_map, All-push, Wait, locks_of, TellsQueue, IsWellFormed, AreQueues, waits_on, AreThoseWaiting, waits_of, policy_of, processes_of, has_pair}
+use Rattle.std.proofs.Common.{length-append}
 use Rattle.std.specs.Vec.{vec_len, vec_capacity}
-use Rattle.std.proofs.Math.Logic.{∥∥₁_map}
-use Rattle.std.proofs.lemmas.List.Elements.{All-push}
 use Rattle.std.proofs.lemmas.List.Quantifiers.{all_pairs_push}
-use Rattle.wait_core.specs.declared.Wait.{Wait}
-use Rattle.wait_core.specs.Locks.{locks_of}
-use Rattle.wait_core.specs.PairsView.{TellsQueue}
-use Rattle.wait_core.specs.WellFormed.{IsWellFormed}
-use Rattle.wait_core.specs.Queues.{AreQueues, waits_on}
-use Rattle.wait_core.specs.Processes.{AreThoseWaiting}
-use Rattle.wait_core.specs.WaitsView.{waits_of, policy_of, processes_of, has_pair}
 use Rattle.wait_core.proofs.BehindLemmas.{behind_joined}
 use Rattle.wait_core.proofs.FileLemmas.{none_before, queues_joined}
 use Rattle.wait_core.proofs.ListLemmas.{none_of, room_for}

@@ -1,9 +1,5 @@
-use Rattle.std.proofs.Common.{◌↔◌, List, Any, subst, sym}
-use Rattle.std.specs.Prelude.{IsTrue}
-use Rattle.wait_core.specs.declared.Policy.{Policy}
-use Rattle.wait_core.specs.declared.Wait.{Wait}
-use Rattle.wait_core.specs.Blocking.{IsQueued, WaitsConflict}
-use Rattle.wait_core.specs.WaitsView.{waits_of, policy_of}
+use Rattle.wait_core.proofs.Common.{◌↔◌, List, Any, subst, sym, IsTrue, Policy, Wait, WaitsConflict, waits_of, policy_of}
+use Rattle.wait_core.specs.Blocking.{IsQueued}
 use Rattle.wait_core.proofs.FileLemmas.{conflicts_on}
 use Rattle.wait_core.proofs.waits.Waits.queued.Goals as goal
 

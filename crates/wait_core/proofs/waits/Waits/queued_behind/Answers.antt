@@ -1,11 +1,4 @@
-use Rattle.std.proofs.Common.{◌↔◌, List, All, Any, subst, sym}
-use Rattle.std.specs.Prelude.{IsTrue}
-use Rattle.wait_core.specs.declared.Wait.{Wait}
-use Rattle.wait_core.specs.Cycles.{IsTraditional}
-use Rattle.wait_core.specs.Pairs.{IsConflictOf}
-use Rattle.wait_core.specs.Processes.{is_member}
-use Rattle.wait_core.specs.WaitsView.{waits_of, policy_of}
-use Rattle.wait_core.specs.WellFormed.{IsWellFormed}
+use Rattle.wait_core.proofs.Common.{◌↔◌, List, All, Any, subst, sym, IsTrue, Wait, IsTraditional, IsConflictOf, is_member, waits_of, policy_of, IsWellFormed}
 use Rattle.wait_core.proofs.FileLemmas.{conflicts_of_on, well_formed_on}
 use Rattle.wait_core.proofs.waits.Waits.queued_behind.Goals as goal
 

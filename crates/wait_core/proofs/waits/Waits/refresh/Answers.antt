@@ -1,13 +1,5 @@
-use Rattle.std.proofs.Common.{◌≡◌, ◌≢◌, refl, All, subst, sym}
-use Rattle.std.specs.List.{AllPairs}
-use Rattle.wait_core.specs.declared.Wait.{Wait}
-use Rattle.wait_core.specs.Locks.{locks_of}
+use Rattle.wait_core.proofs.Common.{◌≡◌, ◌≢◌, refl, All, subst, sym, AllPairs, Wait, locks_of, TellsWait, waits_on, changed_files, waits_of, policy_of, has_pair, IsWellFormed}
 use Rattle.wait_core.specs.Pairs.{IsElsewhere}
-use Rattle.wait_core.specs.PairsView.{TellsWait}
-use Rattle.wait_core.specs.Queues.{waits_on}
-use Rattle.wait_core.specs.Settled.{changed_files}
-use Rattle.wait_core.specs.WaitsView.{waits_of, policy_of, has_pair}
-use Rattle.wait_core.specs.WellFormed.{IsWellFormed}
 use Rattle.wait_core.proofs.FileLemmas.{all_from, all_on, length_on, on_file_on, well_formed_on}
 use Rattle.wait_core.proofs.LinkLemmas.{lead_apart}
 use Rattle.wait_core.proofs.PairLemmas.{told-refresh}

@@ -1,5 +1,4 @@
-use Rattle.wait_core.specs.Settled.{changed_files}
-use Rattle.wait_core.specs.WaitsView.{waits_of, policy_of}
+use Rattle.wait_core.proofs.Common.{changed_files, waits_of, policy_of}
 use Rattle.wait_core.proofs.SettledLemmas.{elsewhere_touched}
 use Rattle.wait_core.proofs.waits.Waits.touch.Goals as goal
 

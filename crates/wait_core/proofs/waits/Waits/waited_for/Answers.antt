@@ -1,12 +1,5 @@
-use Rattle.std.proofs.Common.{◌≡◌, ◌∙◌, ◌↔◌, Bool, [], ap, sym, subst}
-use Rattle.std.specs.Prelude.{◌||◌, IsTrue}
-use Rattle.wait_core.specs.declared.Policy.{Policy}
-use Rattle.wait_core.specs.declared.Policy.TheVariants.{Queue}
-use Rattle.wait_core.specs.Cycles.{WaitsFor}
+use Rattle.wait_core.proofs.Common.{◌≡◌, ◌∙◌, ◌↔◌, Bool, [], ap, sym, subst, ◌||◌, IsTrue, Policy, Queue, WaitsFor, pair_in, is_member, waits_of, policy_of, has_pair}
 use Rattle.wait_core.specs.Pairs.{StandsBehind}
-use Rattle.wait_core.specs.PairsView.{pair_in}
-use Rattle.wait_core.specs.Processes.{is_member}
-use Rattle.wait_core.specs.WaitsView.{waits_of, policy_of, has_pair}
 use Rattle.wait_core.proofs.QueueLemmas.{queue_known, told_in_queue}
 use Rattle.wait_core.proofs.waits.Waits.waited_for.Goals as goal
 

@@ -1,10 +1,4 @@
-use Rattle.std.proofs.Common.{◌≡◌, ◌≤◌, arith, true, false}
-use Rattle.std.specs.Prelude.{IsTrue}
-use Rattle.std.proofs.Math.Logic.{∥∥₁_elim}
-use Rattle.wait_core.specs.Locks.{locks_of}
-use Rattle.wait_core.specs.Cycles.{WaitsFor}
-use Rattle.wait_core.specs.Processes.{is_member}
-use Rattle.wait_core.specs.WaitsView.{waits_of, policy_of, processes_of}
+use Rattle.wait_core.proofs.Common.{◌≡◌, ◌≤◌, arith, true, false, IsTrue, ∥∥₁_elim, locks_of, WaitsFor, is_member, waits_of, policy_of, processes_of}
 use Rattle.wait_core.proofs.ReachLemmas.{chain_end}
 use Rattle.wait_core.proofs.waits.Waits.would_cycle.Goals as goal
 

@@ -1,5 +1,4 @@
-use Rattle.std.proofs.Common.{arith}
-use Rattle.std.proofs.lemmas.Grind.{common_steps}
+use Rattle.lock_book.proofs.Common.{arith, common_steps}
 use Rattle.lock_book.proofs.HolderLemmas.{conflict_near}
 use Rattle.lock_book.proofs.book.holders.FlockHolders.blocked.Goals as goal
 

@@ -1,6 +1,4 @@
-use Rattle.std.proofs.Common.{◌∙◌, ap}
-use Rattle.range_core.specs.declared.Mode.TheVariants.{Read, Write}
-use Rattle.lock_book.specs.Holders.{mode_in_place}
+use Rattle.lock_book.proofs.Common.{◌∙◌, ap, Read, Write, mode_in_place}
 use Rattle.lock_book.proofs.HolderLemmas.{conflict_counted, counted_others, own_counted}
 use Rattle.lock_book.proofs.book.holders.FlockHolders.blocked_by_others.Goals as goal
 

@@ -1,6 +1,4 @@
-use Rattle.std.proofs.Common.{◌≡◌, arith, inl, inr, not, refl, true}
-use Rattle.std.proofs.lemmas.Bool.{cases_Bool, cases_lt}
-use Rattle.range_core.specs.declared.Mode.TheVariants.{Write}
+use Rattle.lock_book.proofs.Common.{◌≡◌, arith, inl, inr, not, refl, true, cases_Bool, cases_lt, Write}
 use Rattle.lock_book.specs.Holders.{conflicting}
 use Rattle.lock_book.proofs.HolderLemmas.{none_counted}
 use Rattle.lock_book.proofs.book.holders.FlockHolders.is_empty.Goals as goal

@@ -1,5 +1,4 @@
-use Rattle.std.proofs.Common.{arith}
-use Rattle.std.proofs.lemmas.Grind.{common_steps}
+use Rattle.lock_book.proofs.Common.{arith, common_steps}
 use Rattle.lock_book.proofs.HolderLemmas.{latest_conflicts}
 use Rattle.lock_book.proofs.book.holders.FlockHolders.latest_blocks.Goals as goal
 

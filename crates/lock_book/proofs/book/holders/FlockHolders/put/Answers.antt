@@ -1,6 +1,4 @@
-use Rattle.std.proofs.lemmas.Grind.{common_steps}
-use Rattle.std.proofs.Common.{◌∙◌, Some, refl, arith}
-use Rattle.range_core.specs.declared.Mode.TheVariants.{Read, Write}
+use Rattle.lock_book.proofs.Common.{common_steps, ◌∙◌, Some, refl, arith, Read, Write}
 use Rattle.lock_book.proofs.HolderLemmas.{PutsAmong-updates, counted_put, counted_fits, own_counted, own_lock}
 use Rattle.lock_book.proofs.OwnerLemmas.{lookup-nat_cmp}
 use Rattle.lock_book.proofs.book.holders.FlockHolders.put.Goals as goal

@@ -1,5 +1,4 @@
-use Rattle.std.proofs.Common.{◌∙◌, None, ap, refl, sym}
-use Rattle.range_core.specs.declared.Mode.TheVariants.{Read, Write}
+use Rattle.lock_book.proofs.Common.{◌∙◌, None, ap, refl, sym, Read, Write}
 use Rattle.lock_book.specs.Holders.{locks_among}
 use Rattle.lock_book.proofs.HolderLemmas.{counted_others, own_counted, own_lock, PutsAmong-updates}
 use Rattle.lock_book.proofs.book.holders.FlockHolders.remove.Goals as goal

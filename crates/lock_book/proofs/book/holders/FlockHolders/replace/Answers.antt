@@ -1,5 +1,4 @@
-use Rattle.std.proofs.Common.{◌∙◌, Some, refl}
-use Rattle.range_core.specs.declared.Mode.TheVariants.{Read, Write}
+use Rattle.lock_book.proofs.Common.{◌∙◌, Some, refl, Read, Write}
 use Rattle.lock_book.proofs.HolderLemmas.{PutsAmong-writes, counted_fits, counted_written}
 use Rattle.lock_book.proofs.book.holders.FlockHolders.replace.Goals as goal
 

@@ -1,7 +1,5 @@
-use Rattle.std.proofs.Common.{true}
-use Rattle.std.specs.Box.{with_value}
-use Rattle.range_core.specs.Changes.{modes_of}
-use Rattle.lock_book.specs.Indexing.{as_holder, holder_modes, is_others}
+use Rattle.lock_book.proofs.Common.{true, with_value, modes_of, as_holder, holder_modes}
+use Rattle.lock_book.specs.Indexing.{is_others}
 use Rattle.lock_book.proofs.IndexedLemmas.{each_listed, kept_lent, kept_new, others_taken}
 use Rattle.lock_book.proofs.book.index.OwnersIndex.take_all.Goals as goal
 

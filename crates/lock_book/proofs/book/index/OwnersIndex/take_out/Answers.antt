@@ -1,6 +1,4 @@
-use Rattle.std.proofs.Common.{true}
-use Rattle.std.specs.Box.{with_value}
-use Rattle.lock_book.specs.Indexing.{as_holder, holder_modes, is_outside}
+use Rattle.lock_book.proofs.Common.{true, with_value, as_holder, holder_modes, is_outside}
 use Rattle.lock_book.proofs.IndexedLemmas.{kept_lent, kept_new, outside_taken}
 use Rattle.lock_book.proofs.book.index.OwnersIndex.take_out.Goals as goal
 

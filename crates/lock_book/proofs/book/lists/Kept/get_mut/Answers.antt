@@ -1,7 +1,4 @@
-use Rattle.std.proofs.Common.{◌∙◌, sym, ap, Some, refl}
-use Rattle.std.specs.Box.{with_value}
-use Rattle.std.specs.Option.{option_copied_mut, option_map}
-use Rattle.lock_book.specs.Kept.{unboxed}
+use Rattle.lock_book.proofs.Common.{◌∙◌, sym, ap, Some, refl, with_value, option_copied_mut, option_map, unboxed}
 use Rattle.lock_book.proofs.OwnerListLemmas.{Blocks, lent_in_block, written_in_block}
 use Rattle.lock_book.proofs.book.lists.Kept.get_mut.Goals as goal
 

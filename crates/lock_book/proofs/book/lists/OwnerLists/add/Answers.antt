@@ -1,6 +1,5 @@
-use Rattle.std.proofs.Common.{rules, [], ◌∷◌, ◌∙◌, Some, ap, sym}
-use Rattle.lock_book.specs.OwnerLists.{PutsFor}
-use Rattle.lock_book.specs.Kept.{lists_in, pair_of, unboxed}
+use Rattle.lock_book.proofs.Common.{rules, [], ◌∷◌, ◌∙◌, Some, ap, sym, PutsFor, pair_of, unboxed}
+use Rattle.lock_book.specs.Kept.{lists_in}
 use Rattle.lock_book.proofs.BookLemmas.{OnErr-anyhow}
 use Rattle.lock_book.proofs.PutLemmas.{PutsFor-updates}
 use Rattle.lock_book.proofs.book.lists.OwnerLists.add.Goals as goal

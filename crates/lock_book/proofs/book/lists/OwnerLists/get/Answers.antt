@@ -1,5 +1,4 @@
-use Rattle.std.proofs.Common.{◌∙◌, sym, ap, Some}
-use Rattle.std.specs.Option.{option_copied, option_map}
+use Rattle.lock_book.proofs.Common.{◌∙◌, sym, ap, Some, option_copied, option_map}
 use Rattle.lock_book.proofs.OwnerListLemmas.{found_in_block}
 use Rattle.lock_book.proofs.book.lists.OwnerLists.get.Goals as goal
 

@@ -1,4 +1,4 @@
-use Rattle.std.proofs.Common.{◌∙◌}
+use Rattle.lock_book.proofs.Common.{◌∙◌}
 use Rattle.lock_book.proofs.OwnerListLemmas.{all_from, found_from_rising}
 use Rattle.lock_book.proofs.book.lists.OwnerLists.iter.Goals as goal
 

@@ -1,6 +1,6 @@
-use Rattle.std.proofs.Common.{arith, ◌∙◌, ap, cond, Bool, [], ◌∷◌, refl}
+use Rattle.lock_book.proofs.Common.{arith, ◌∙◌, ap, cond, Bool, [], ◌∷◌, refl, pair_of, unboxed}
 use Rattle.lock_book.specs.declared.book.lists.Left.TheVariants as left
-use Rattle.lock_book.specs.Kept.{lists_left, pair_of, unboxed}
+use Rattle.lock_book.specs.Kept.{lists_left}
 use Rattle.lock_book.proofs.OwnerListLemmas.{one_from, rising_in_blocks, unboxed_from}
 use Rattle.lock_book.proofs.book.lists.OwnerLists.iter_from.Goals as goal
 use Rattle.lock_book.proofs.book.lists.OwnerLists.iter_from.Goals.{in-Nothing, in-One, in-Many}

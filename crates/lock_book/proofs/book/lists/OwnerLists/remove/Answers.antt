@@ -1,7 +1,4 @@
-use Rattle.std.proofs.Common.{rules, ◌∙◌, None, ap, sym}
-use Rattle.std.specs.Option.{option_map}
-use Rattle.lock_book.specs.OwnerLists.{PutsFor}
-use Rattle.lock_book.specs.Kept.{unboxed}
+use Rattle.lock_book.proofs.Common.{rules, ◌∙◌, None, ap, sym, option_map, PutsFor, unboxed}
 use Rattle.lock_book.proofs.OwnerListLemmas.{lookup-unboxed, none_in_blocks, taken_out}
 use Rattle.lock_book.proofs.PutLemmas.{PutsFor-updates}
 use Rattle.lock_book.proofs.book.lists.OwnerLists.remove.Goals as goal

@@ -1,4 +1,4 @@
-use Rattle.lock_server.specs.Listing.{wait_place}
+use Rattle.lock_server.proofs.Common.{wait_place}
 use Rattle.lock_server.proofs.OwnerWaitLemmas.{wait_joins}
 use Rattle.lock_server.proofs.file.listing.AskedForWalkPendingHullOptionOwnerWait.see.Goals as goal
 

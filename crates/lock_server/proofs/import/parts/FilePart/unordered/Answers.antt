@@ -1,6 +1,4 @@
-use Rattle.std.proofs.Common.{◌≡◌, List, None, Some, subst, sym}
-use Rattle.std.specs.Prelude.{AllPairs}
-use Rattle.lock_server.specs.declared.Lock.{Lock}
+use Rattle.lock_server.proofs.Common.{◌≡◌, List, None, Some, subst, sym, AllPairs, Lock}
 use Rattle.lock_server.specs.Ordered.{IsLockBefore}
 use Rattle.lock_server.proofs.import.parts.FilePart.unordered.Goals as goal
 

@@ -1,5 +1,5 @@
 use Rattle.lock_server.specs.Restoring.{IsOnCycle}
-use Rattle.lock_server.specs.TableView.{table_state}
+use Rattle.lock_server.proofs.Common.{table_state}
 use Rattle.lock_server.proofs.import.parts.Parts.check_cycles.Goals as goal
 
 pub returns-in-Some-clause-again : goal.returns-in-Some-clause-again

@@ -1,5 +1,4 @@
-use Rattle.std.proofs.Common.{◌≡◌, ◌<◌, ◌∙◌, List, None, Some, ap, get_or, length, subst, sym}
-use Rattle.lock_server.specs.declared.import.parts.FilePart.{FilePart}
+use Rattle.lock_server.proofs.Common.{◌≡◌, ◌<◌, ◌∙◌, List, None, Some, ap, get_or, length, subst, sym, FilePart}
 use Rattle.lock_server.specs.Ordered.{IsInOrder}
 use Rattle.lock_server.proofs.import.parts.Parts.check_order.Goals as goal
 

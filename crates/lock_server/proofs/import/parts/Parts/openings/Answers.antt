@@ -1,7 +1,5 @@
-use Rattle.std.proofs.Common.{◌≡◌, ◌≤◌, ◌<◌, ◌∙◌, List, Some, ap, get_or, length, subst, sym}
-use Rattle.std.proofs.lemmas.List.{get_or_default}
+use Rattle.lock_server.proofs.Common.{◌≡◌, ◌≤◌, ◌<◌, ◌∙◌, List, Some, ap, get_or, length, subst, sym, get_or_default, through_at}
 use Rattle.lock_server.specs.declared.import.parts.Note.{Note}
-use Rattle.lock_server.specs.OpeningsView.{through_at}
 use Rattle.lock_server.proofs.NoteLemmas.{taken_all, taken_more, taken_none}
 use Rattle.lock_server.proofs.import.parts.Parts.openings.Goals as goal
 

@@ -1,6 +1,4 @@
-use Rattle.std.proofs.Common.{ℕ, Option}
-use Rattle.lock_server.specs.Importing.{AreNotesOf}
-use Rattle.lock_server.specs.OpeningsView.{through_at}
+use Rattle.lock_server.proofs.Common.{ℕ, Option, AreNotesOf, through_at}
 use Rattle.lock_server.proofs.NoteLemmas.{AreTaken}
 use Rattle.lock_server.proofs.import.parts.Parts.openings.Given as goal
 

@@ -1,6 +1,5 @@
-use Rattle.std.proofs.Common.{ℕ, List, subst}
+use Rattle.lock_server.proofs.Common.{ℕ, List, subst, table_state}
 use Rattle.lock_server.specs.Restoring.{QueuesBefore}
-use Rattle.lock_server.specs.TableView.{table_state}
 use Rattle.lock_server.proofs.RejoinedLemmas.{none_granted}
 use Rattle.lock_server.proofs.import.parts.Parts.put_grants.Goals as goal
 

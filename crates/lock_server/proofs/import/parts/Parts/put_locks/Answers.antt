@@ -1,10 +1,5 @@
-use Rattle.std.proofs.Common.{◌≡◌, ◌<◌, ◌∙◌, List, ap, get_or, length, map, subst}
-use Rattle.lock_server.specs.declared.FlockLock.{FlockLock}
-use Rattle.lock_server.specs.declared.Lock.{Lock}
-use Rattle.lock_server.specs.declared.import.parts.FilePart.{FilePart}
-use Rattle.lock_server.specs.Importing.{SetsOnFile}
-use Rattle.lock_server.specs.Restoring.{SetsBefore, SetsEach, flock_lock_request, lock_request}
-use Rattle.lock_server.specs.TableView.{table_state}
+use Rattle.lock_server.proofs.Common.{◌≡◌, ◌<◌, ◌∙◌, List, ap, get_or, length, map, subst, FlockLock, Lock, FilePart, SetsOnFile, SetsEach, flock_lock_request, lock_request, table_state}
+use Rattle.lock_server.specs.Restoring.{SetsBefore}
 use Rattle.lock_server.proofs.ImportLemmas.{sets_next}
 use Rattle.lock_server.proofs.RestoredLemmas.{flock_held, lock_held}
 use Rattle.lock_server.proofs.import.parts.Parts.put_locks.Goals as goal

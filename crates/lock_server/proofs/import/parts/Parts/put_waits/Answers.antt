@@ -1,8 +1,5 @@
-use Rattle.std.proofs.Common.{◌≡◌, ◌<◌, ◌∙◌, List, ap, get_or, length, subst}
-use Rattle.lock_server.specs.declared.Pending.{Pending}
-use Rattle.lock_server.specs.declared.import.parts.FilePart.{FilePart}
-use Rattle.lock_server.specs.Restoring.{JoinsBefore, JoinsEach}
-use Rattle.lock_server.specs.TableView.{table_state}
+use Rattle.lock_server.proofs.Common.{◌≡◌, ◌<◌, ◌∙◌, List, ap, get_or, length, subst, Pending, FilePart, JoinsEach, table_state}
+use Rattle.lock_server.specs.Restoring.{JoinsBefore}
 use Rattle.lock_server.proofs.ImportLemmas.{joins_next}
 use Rattle.lock_server.proofs.RejoinedLemmas.{none_taken}
 use Rattle.lock_server.proofs.import.parts.Parts.put_waits.Goals as goal

@@ -1,6 +1,4 @@
-use Rattle.std.proofs.Common.{take}
-use Rattle.lock_server.specs.Importing.{JoinsAll}
-use Rattle.lock_server.specs.TableView.{AreSwept, table_state}
+use Rattle.lock_server.proofs.Common.{take, JoinsAll, AreSwept, table_state}
 use Rattle.lock_server.proofs.import.parts.Parts.put_waits.Given as goal
 
 abbrev pub invariant-loop-i : goal.invariant-loop-i

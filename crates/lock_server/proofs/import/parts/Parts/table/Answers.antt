@@ -1,9 +1,4 @@
-use Rattle.std.proofs.Common.{ℕ, ◌∙◌, List, sym, subst}
-use Rattle.std.specs.Prelude.{IsTrue}
-use Rattle.lock_server.specs.Deadlock.{IsFreeOfCycles}
-use Rattle.lock_server.specs.Restoring.{CrossesEach}
-use Rattle.lock_server.specs.States.{State}
-use Rattle.lock_server.specs.TableView.{table_state}
+use Rattle.lock_server.proofs.Common.{ℕ, ◌∙◌, List, sym, subst, IsTrue, IsFreeOfCycles, CrossesEach, State, table_state}
 use Rattle.lock_server.proofs.ImportLemmas.{safe_built}
 use Rattle.lock_server.proofs.JustLemmas.{All-from}
 use Rattle.lock_server.proofs.ReaderLemmas.{fails}

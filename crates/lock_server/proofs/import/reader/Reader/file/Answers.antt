@@ -1,6 +1,5 @@
-use Rattle.std.proofs.Common.{◌++◌, ◌∙◌}
+use Rattle.lock_server.proofs.Common.{◌++◌, ◌∙◌, flock_words, listed, lock_words, wait_words}
 use Rattle.lock_server.proofs.ReaderLemmas.{fails}
-use Rattle.lock_server.specs.Bytes.{flock_words, listed, lock_words, wait_words}
 use Rattle.lock_server.proofs.ExportLaws.{three}
 use Rattle.lock_server.proofs.import.reader.Reader.file.Goals as goal
 

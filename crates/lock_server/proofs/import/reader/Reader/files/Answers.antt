@@ -1,7 +1,6 @@
-use Rattle.std.proofs.Common.{List, ◌+◌, ◌++◌, flat_map, length, subst, sym}
-use Rattle.lock_server.specs.declared.import.parts.FilePart.{FilePart}
-use Rattle.lock_server.specs.Bytes.{file_words}
-use Rattle.lock_server.specs.Reading.{MayStand, entry_of}
+use Rattle.lock_server.proofs.Common.{List, ◌+◌, ◌++◌, length, subst, sym, FilePart, file_words, MayStand}
+use Rattle.std.proofs.Common.{flat_map}
+use Rattle.lock_server.specs.Reading.{entry_of}
 use Rattle.lock_server.proofs.ReaderLemmas.{AreReadTo, IsReadTo, fails, file_wide, reads_all, reads_more, reads_none, reads_stop, wants, wide}
 use Rattle.lock_server.proofs.import.reader.Reader.files.Goals as goal
 

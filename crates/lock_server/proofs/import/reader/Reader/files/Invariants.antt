@@ -1,5 +1,5 @@
-use Rattle.lock_server.specs.Bytes.{file_words}
-use Rattle.lock_server.specs.Reading.{MayStand, entry_of}
+use Rattle.lock_server.proofs.Common.{file_words, MayStand}
+use Rattle.lock_server.specs.Reading.{entry_of}
 use Rattle.lock_server.proofs.ReaderLemmas.{AreReadTo}
 use Rattle.lock_server.proofs.import.reader.Reader.files.Given as goal
 

@@ -1,6 +1,5 @@
-use Rattle.std.proofs.Common.{◌∷◌}
+use Rattle.lock_server.proofs.Common.{◌∷◌, mode_word}
 use Rattle.lock_server.proofs.ReaderLemmas.{fails}
-use Rattle.lock_server.specs.Bytes.{mode_word}
 use Rattle.lock_server.proofs.import.reader.Reader.flock.Goals as goal
 
 pub returns-in_err-owner : goal.returns-in_err-owner

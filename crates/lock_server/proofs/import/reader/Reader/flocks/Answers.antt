@@ -1,7 +1,5 @@
-use Rattle.std.proofs.Common.{List, ◌+◌, ◌++◌, ◌∙◌, arith, flat_map, length, subst, sym}
-use Rattle.lock_server.specs.declared.FlockLock.{FlockLock}
-use Rattle.lock_server.specs.Bytes.{flock_words}
-use Rattle.lock_server.specs.Reading.{Always, itself}
+use Rattle.lock_server.proofs.Common.{List, ◌+◌, ◌++◌, ◌∙◌, arith, length, subst, sym, FlockLock, flock_words, Always, itself}
+use Rattle.std.proofs.Common.{flat_map}
 use Rattle.lock_server.proofs.ReaderLemmas.{AreReadTo, IsReadTo, fails, map_itself, reads_all, reads_more, reads_none, reads_stop, wants, wide}
 use Rattle.lock_server.proofs.import.reader.Reader.flocks.Goals as goal
 

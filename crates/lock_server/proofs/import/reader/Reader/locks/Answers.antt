@@ -1,9 +1,5 @@
-use Rattle.std.proofs.Common.{All, List, [], ◌∷◌, ◌+◌, ◌++◌, ◌∙◌, arith, flat_map, length, subst, sym}
-use Rattle.std.proofs.lemmas.List.Elements.{All-append, All-cons, All-nil}
-use Rattle.range_core.specs.Ranges.{IsByteRange}
-use Rattle.lock_server.specs.declared.Lock.{Lock}
-use Rattle.lock_server.specs.Bytes.{lock_words}
-use Rattle.lock_server.specs.Reading.{MayLock, itself}
+use Rattle.lock_server.proofs.Common.{All, List, [], ◌∷◌, ◌+◌, ◌++◌, ◌∙◌, arith, length, subst, sym, All-append, All-cons, All-nil, IsByteRange, Lock, lock_words, MayLock, itself}
+use Rattle.std.proofs.Common.{flat_map}
 use Rattle.lock_server.proofs.ReaderLemmas.{AreReadTo, IsReadTo, fails, map_itself, reads_all, reads_more, reads_none, reads_stop, wants, wide}
 use Rattle.lock_server.proofs.import.reader.Reader.locks.Goals as goal
 

@@ -1,7 +1,5 @@
 use Rattle.std.specs.Prelude.{All}
-use Rattle.range_core.specs.Ranges.{IsByteRange}
-use Rattle.lock_server.specs.Bytes.{lock_words}
-use Rattle.lock_server.specs.Reading.{MayLock, itself}
+use Rattle.lock_server.proofs.Common.{IsByteRange, lock_words, MayLock, itself}
 use Rattle.lock_server.proofs.ReaderLemmas.{AreReadTo}
 use Rattle.lock_server.proofs.import.reader.Reader.locks.Given as goal
 

@@ -1,5 +1,5 @@
 use Rattle.lock_server.proofs.ReaderLemmas.{fails}
-use Rattle.lock_server.specs.Bytes.{mode_word}
+use Rattle.lock_server.proofs.Common.{mode_word}
 use Rattle.lock_server.proofs.import.reader.Reader.mode.Goals as goal
 
 pub returns-in_err-word : goal.returns-in_err-word

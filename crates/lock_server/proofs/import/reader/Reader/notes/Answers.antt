@@ -1,7 +1,6 @@
-use Rattle.std.proofs.Common.{List, ◌+◌, ◌++◌, arith, flat_map, length, subst, sym}
+use Rattle.lock_server.proofs.Common.{List, ◌+◌, ◌++◌, arith, length, subst, sym, note_words, Always, note_of}
+use Rattle.std.proofs.Common.{flat_map}
 use Rattle.lock_server.specs.declared.import.parts.Note.{Note}
-use Rattle.lock_server.specs.Bytes.{note_words}
-use Rattle.lock_server.specs.Reading.{Always, note_of}
 use Rattle.lock_server.proofs.ReaderLemmas.{AreReadTo, IsReadTo, fails, reads_all, reads_more, reads_none, reads_stop, wants, wide}
 use Rattle.lock_server.proofs.import.reader.Reader.notes.Goals as goal
 

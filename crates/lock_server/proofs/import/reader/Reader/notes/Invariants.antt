@@ -1,5 +1,4 @@
-use Rattle.lock_server.specs.Bytes.{note_words}
-use Rattle.lock_server.specs.Reading.{Always, note_of}
+use Rattle.lock_server.proofs.Common.{note_words, Always, note_of}
 use Rattle.lock_server.proofs.ReaderLemmas.{AreReadTo}
 use Rattle.lock_server.proofs.import.reader.Reader.notes.Given as goal
 

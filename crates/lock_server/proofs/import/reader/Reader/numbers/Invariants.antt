@@ -1,5 +1,4 @@
-use Rattle.lock_server.specs.Bytes.{number_words}
-use Rattle.lock_server.specs.Reading.{Always, itself}
+use Rattle.lock_server.proofs.Common.{number_words, Always, itself}
 use Rattle.lock_server.proofs.ReaderLemmas.{AreReadTo}
 use Rattle.lock_server.proofs.import.reader.Reader.numbers.Given as goal
 

@@ -1,6 +1,6 @@
-use Rattle.std.proofs.Common.{ℕ, List, ◌++◌, ◌∙◌, ap, append_assoc}
+use Rattle.lock_server.proofs.Common.{ℕ, List, ◌++◌, ◌∙◌, ap, append_assoc, file_words, listed, note_words, number_words}
 use Rattle.lock_server.proofs.ReaderLemmas.{fails}
-use Rattle.lock_server.specs.Bytes.{file_words, inventory_words, listed, note_words, number_words}
+use Rattle.lock_server.specs.Bytes.{inventory_words}
 use Rattle.lock_server.proofs.ExportLaws.{three}
 use Rattle.lock_server.proofs.import.reader.Reader.parts.Goals as goal
 

@@ -1,5 +1,5 @@
 use Rattle.lock_server.proofs.ReaderLemmas.{fails}
-use Rattle.lock_server.specs.Bytes.{policy_word}
+use Rattle.lock_server.proofs.Common.{policy_word}
 use Rattle.lock_server.proofs.import.reader.Reader.policy.Goals as goal
 
 pub returns-in_err-word : goal.returns-in_err-word

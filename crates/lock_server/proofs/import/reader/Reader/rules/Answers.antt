@@ -1,6 +1,5 @@
-use Rattle.std.proofs.Common.{◌∷◌}
+use Rattle.lock_server.proofs.Common.{◌∷◌, conversion_word, policy_word}
 use Rattle.lock_server.proofs.ReaderLemmas.{fails}
-use Rattle.lock_server.specs.Bytes.{conversion_word, policy_word}
 use Rattle.lock_server.proofs.import.reader.Reader.rules.Goals as goal
 
 pub returns-in_err-word : goal.returns-in_err-word

@@ -1,4 +1,4 @@
-use Rattle.std.proofs.Common.{◌∷◌}
+use Rattle.lock_server.proofs.Common.{◌∷◌}
 use Rattle.lock_server.proofs.ReaderLemmas.{fails}
 use Rattle.lock_server.proofs.import.reader.Reader.span.Goals as goal
 

@@ -1,6 +1,5 @@
-use Rattle.std.proofs.Common.{◌∷◌}
+use Rattle.lock_server.proofs.Common.{◌∷◌, family_word, flag_word, mode_word}
 use Rattle.lock_server.proofs.ReaderLemmas.{fails}
-use Rattle.lock_server.specs.Bytes.{family_word, flag_word, mode_word}
 use Rattle.lock_server.proofs.import.reader.Reader.wait.Goals as goal
 
 pub returns-in_err-ticket-clause-again : goal.returns-in_err-ticket-clause-again

@@ -1,9 +1,5 @@
-use Rattle.std.proofs.Common.{All, List, [], ◌∷◌, ◌+◌, ◌++◌, ◌∙◌, arith, flat_map, length, subst, sym}
-use Rattle.std.proofs.lemmas.List.Elements.{All-append, All-cons, All-nil}
-use Rattle.range_core.specs.Ranges.{IsByteRange}
-use Rattle.lock_server.specs.declared.Pending.{Pending}
-use Rattle.lock_server.specs.Bytes.{wait_words}
-use Rattle.lock_server.specs.Reading.{MayWait, itself}
+use Rattle.lock_server.proofs.Common.{All, List, [], ◌∷◌, ◌+◌, ◌++◌, ◌∙◌, arith, length, subst, sym, All-append, All-cons, All-nil, IsByteRange, Pending, wait_words, MayWait, itself}
+use Rattle.std.proofs.Common.{flat_map}
 use Rattle.lock_server.proofs.ReaderLemmas.{AreReadTo, IsReadTo, fails, map_itself, reads_all, reads_more, reads_none, reads_stop, wants, wide}
 use Rattle.lock_server.proofs.import.reader.Reader.waits.Goals as goal
 

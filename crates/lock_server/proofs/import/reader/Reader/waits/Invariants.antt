@@ -1,7 +1,5 @@
 use Rattle.std.specs.Prelude.{All}
-use Rattle.range_core.specs.Ranges.{IsByteRange}
-use Rattle.lock_server.specs.Bytes.{wait_words}
-use Rattle.lock_server.specs.Reading.{MayWait, itself}
+use Rattle.lock_server.proofs.Common.{IsByteRange, wait_words, MayWait, itself}
 use Rattle.lock_server.proofs.ReaderLemmas.{AreReadTo}
 use Rattle.lock_server.proofs.import.reader.Reader.waits.Given as goal
 

@@ -1,4 +1,4 @@
-use Rattle.std.proofs.Common.{◌∙◌, arith, sym}
+use Rattle.lock_server.proofs.Common.{◌∙◌, arith, sym}
 use Rattle.lock_server.proofs.SearchInDepthLemmas.{begun, no_items}
 use Rattle.lock_server.proofs.table.cycles.Search.current.Goals as goal
 

@@ -1,6 +1,5 @@
-use Rattle.std.proofs.Common.{◌∙◌, arith, below_more, get_or, inl, inr, subst, sym, List, ℕ, Contains, true, false, ◌≡◌}
-use Rattle.std.proofs.lemmas.List.{get_or_default}
-use Rattle.lock_server.specs.Searching.{IsAhead}
+use Rattle.lock_server.proofs.Common.{◌∙◌, arith, get_or, inl, inr, subst, sym, List, ℕ, Contains, true, false, ◌≡◌, get_or_default, IsAhead}
+use Rattle.std.proofs.Common.{below_more}
 use Rattle.lock_server.proofs.SearchInDepthLemmas.{among_found}
 use Rattle.lock_server.proofs.table.cycles.Search.turn.Goals as goal
 

@@ -1,5 +1,4 @@
-use Rattle.std.proofs.Common.{ℕ, ◌<◌, get_or}
-use Rattle.lock_server.specs.Searching.{IsAhead}
+use Rattle.lock_server.proofs.Common.{ℕ, ◌<◌, get_or, IsAhead}
 use Rattle.lock_server.proofs.table.cycles.Search.turn.Given as goal
 
 abbrev pub invariant-loop-owner : goal.invariant-loop-owner

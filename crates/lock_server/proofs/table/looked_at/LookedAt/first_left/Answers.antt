@@ -1,9 +1,4 @@
-use Rattle.std.proofs.Common.{ℕ, subst}
-use Rattle.std.specs.Prelude.{IfNone, IfSome}
-use Rattle.range_core.specs.Ranges.{Covers, Modes}
-use Rattle.lock_server.specs.Lacking.{IsFirstPartLacking}
-use Rattle.lock_server.specs.LookedAt.{looked_modes}
-use Rattle.lock_server.specs.Settling.{IsAtLeast}
+use Rattle.lock_server.proofs.Common.{ℕ, subst, IfNone, IfSome, Covers, Modes, IsFirstPartLacking, looked_modes, IsAtLeast}
 use Rattle.lock_server.proofs.LookedLemmas.{found_looked, not_looked, whole_left}
 use Rattle.lock_server.proofs.table.looked_at.LookedAt.first_left.Goals as goal
 

@@ -1,4 +1,4 @@
-use Rattle.std.proofs.Common.{inr}
+use Rattle.lock_server.proofs.Common.{inr}
 use Rattle.lock_server.proofs.ReachedLemmas.{known_among, not_new}
 use Rattle.lock_server.proofs.table.reached.Reached.add.Goals as goal
 
