@@ -3,8 +3,8 @@ use super::lines::Line::{Refused, Sent, Told};
 use super::lines::{ALL, FIRST, LAST_ON, Line, MIDST, TEN, WIDE, read_each};
 use history_core::Action::{Close, Set, Unlock, Wait};
 use history_core::Answer::{Busy, Deadlock, Done, Error, Interrupted};
+use range_core::Memory;
 use range_core::Mode::{Read, Write};
-use std::test::Fail;
 
 /// Readers share bytes, a writer shares none, and one owner is never in its own way.
 const ONE_AFTER_ANOTHER: &[Line] = &[
@@ -167,7 +167,7 @@ const NOT_UNDONE: &[Line] = &[
 ];
 
 #[test]
-fn of_byte_locks(rt: HostRuntime) -> Result<(), Fail> {
+fn of_byte_locks(rt: HostRuntime) -> Result<(), Memory> {
     let histories = [
         ONE_AFTER_ANOTHER,
         JUST_THE_BYTES,

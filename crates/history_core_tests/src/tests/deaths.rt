@@ -3,8 +3,8 @@ use super::lines::Line::{Refused, Sent, Told};
 use super::lines::{ALL, FIRST, Line, TEN, read_each};
 use history_core::Action::{Flock, Get, Gone, Set, Unlock, Wait};
 use history_core::Answer::{Busy, Done, Free, Held, Interrupted};
+use range_core::Memory;
 use range_core::Mode::{Read, Write};
-use std::test::Fail;
 
 /// A death takes all of its owner, at a moment between its two lines.
 const TAKES_ALL: &[Line] = &[
@@ -78,7 +78,7 @@ const ENDS_NO_OTHER: &[Line] = &[
 ];
 
 #[test]
-fn of_deaths(rt: HostRuntime) -> Result<(), Fail> {
+fn of_deaths(rt: HostRuntime) -> Result<(), Memory> {
     let histories = [TAKES_ALL, ENDS_REQUESTS, SENT_BEHIND, ENDS_NO_OTHER];
     read_each(&rt, rt.alloc(), false, &histories)
 }

@@ -4,9 +4,9 @@ use super::lines::{ENOUGH, FIRST, Line, TEN, read, same};
 use history_core::Action::{Flock, FlockUnlock, FlockWait, Gone, Set, Unlock, Wait};
 use history_core::Answer::{Busy, Done};
 use history_core::FileHistory;
+use range_core::Memory;
 use range_core::Mode::{Read, Write};
 use std::process::Abort;
-use std::test::Fail;
 
 /// A wait that is blocked.
 const BLOCKED: &[Line] = &[
@@ -73,7 +73,7 @@ const NO_WAIT: &[Line] = &[
 ];
 
 /// Histories, and whether each may end so.
-const ENDINGS: [(&[Line], bool); 9] = [
+const ENDINGS: &[(&[Line], bool)] = &[
     (BLOCKED, true),
     (NOT_WOKEN, false),
     (ONE_IS_TO_BE_GRANTED, false),
@@ -86,22 +86,16 @@ const ENDINGS: [(&[Line], bool); 9] = [
 ];
 
 /// The file, which has no line yet, may end behind the lines, or may not.
-fn ends_so(
-    rt: &impl Abort,
-    file: &mut FileHistory,
-    lines: &[Line],
-    may_end: bool,
-) -> Result<(), Fail> {
-    read(rt, file, lines)?;
-    same(rt, file.may_end(ENOUGH)?, may_end);
-    Ok(())
+fn ends_so(rt: &impl Abort, file: &mut FileHistory, lines: &[Line], may_end: bool) {
+    read(rt, file, lines);
+    same(rt, file.may_end(ENOUGH), Ok(may_end));
 }
 
 #[test]
-fn of_endings(rt: HostRuntime) -> Result<(), Fail> {
+fn of_endings(rt: HostRuntime) -> Result<(), Memory> {
     for (lines, may_end) in ENDINGS {
         let file = &mut FileHistory::new(rt.alloc(), false)?;
-        ends_so(&rt, file, lines, may_end)?;
+        ends_so(&rt, file, lines, *may_end);
     }
     Ok(())
 }

@@ -3,8 +3,8 @@ use super::lines::Line::{Refused, Sent, Told};
 use super::lines::{ALL, Line, read_each};
 use history_core::Action::{Close, Flock, FlockUnlock, FlockWait, Get, Set};
 use history_core::Answer::{Busy, Deadlock, Done, Error, Free, Interrupted};
+use range_core::Memory;
 use range_core::Mode::{Read, Write};
-use std::test::Fail;
 
 /// Shared locks share the file, and an exclusive one doesn't; byte locks and flock locks don't meet.
 const SHARED: &[Line] = &[
@@ -107,7 +107,7 @@ const IN_BETWEEN: &[Line] = &[
 ];
 
 #[test]
-fn of_flock_locks(rt: HostRuntime) -> Result<(), Fail> {
+fn of_flock_locks(rt: HostRuntime) -> Result<(), Memory> {
     let histories = [SHARED, LOST_UPGRADE, KEPT_UPGRADE, IN_BETWEEN];
     read_each(&rt, rt.alloc(), false, &histories)
 }

@@ -4,8 +4,7 @@ use super::lines::{ALL, FIRST, Line, MIDST, TEN, WIDE, read_each};
 use history_core::Action::{Get, Set, Unlock};
 use history_core::Answer::{Busy, Done, Free, Held};
 use range_core::Mode::{Read, Write};
-use range_core::Span;
-use std::test::Fail;
+use range_core::{Memory, Span};
 
 /// The first eleven bytes.
 const ELEVEN: Span = Span { first: 0, last: 10 };
@@ -98,7 +97,7 @@ const ONE_MOMENT: &[Line] = &[
 ];
 
 #[test]
-fn of_gets(rt: HostRuntime) -> Result<(), Fail> {
+fn of_gets(rt: HostRuntime) -> Result<(), Memory> {
     read_each(&rt, rt.alloc(), false, &[PARTS, OF_TWO, ONE_MOMENT])?;
     read_each(&rt, rt.alloc(), true, &[LARGEST])
 }

@@ -3,7 +3,6 @@ use super::lines::{ENOUGH, FIRST, same};
 use history_core::{Action, Answer, FileHistory, Request, SearchFault};
 use range_core::{Mode, Span};
 use std::process::Abort;
-use std::test::Fail;
 
 /// The request of an ID and an owner.
 fn request(id: u64, owner: u64, action: Action) -> Request {
@@ -38,7 +37,7 @@ fn ask(
     answer: Answer,
 ) -> Result<(), SearchFault> {
     send(rt, file, request, ENOUGH)?;
-    assert!(rt; file.answer(request.id, answer, ENOUGH)?);
+    same(rt, file.answer(request.id, answer, ENOUGH), Ok(true));
     Ok(())
 }
 
@@ -51,16 +50,10 @@ fn send_sets(rt: &impl Abort, file: &mut FileHistory, ids: u64) -> Result<(), Se
 }
 
 /// The requests of the IDs from the first to before the end were done.
-fn are_done(
-    rt: &impl Abort,
-    file: &mut FileHistory,
-    first: u64,
-    end: u64,
-) -> Result<(), SearchFault> {
+fn are_done(rt: &impl Abort, file: &mut FileHistory, first: u64, end: u64) {
     for id in first..end {
-        assert!(rt; file.answer(id, Answer::Done, 256)?);
+        same(rt, file.answer(id, Answer::Done, 256), Ok(true));
     }
-    Ok(())
 }
 
 /// Eight sets that don't meet have 256 outcomes, and the limit is told where they don't fit.
@@ -74,10 +67,10 @@ fn eight_sets(rt: &impl Abort, file: &mut FileHistory) -> Result<(), SearchFault
     );
     same(rt, file.may_end(255), Err(SearchFault::Limit));
     same(rt, file.open_requests().len(), 8);
-    assert!(rt; file.may_end(256)?);
-    are_done(rt, file, 0, 1)?;
+    same(rt, file.may_end(256), Ok(true));
+    are_done(rt, file, 0, 1);
     same(rt, (file.count(), file.open_requests().len()), (128, 7));
-    are_done(rt, file, 1, 8)?;
+    are_done(rt, file, 1, 8);
     same(rt, file.count(), 1);
     Ok(())
 }
@@ -86,16 +79,16 @@ fn eight_sets(rt: &impl Abort, file: &mut FileHistory) -> Result<(), SearchFault
 fn one_wait(rt: &impl Abort, file: &mut FileHistory) -> Result<(), SearchFault> {
     let last = request(0, 8, Action::Wait(Mode::Write, FIRST));
     send(rt, file, last, 1)?;
-    assert!(rt; !file.answer(0, Answer::Done, 1)?);
-    assert!(rt; file.may_end(1)?);
+    same(rt, file.answer(0, Answer::Done, 1), Ok(false));
+    same(rt, file.may_end(1), Ok(true));
     Ok(())
 }
 
 #[test]
-fn of_many_possibilities(rt: HostRuntime) -> Result<(), Fail> {
+fn of_many_possibilities(rt: HostRuntime) -> Result<(), SearchFault> {
     let file = &mut FileHistory::new(rt.alloc(), false)?;
     eight_sets(&rt, file)?;
-    Ok(one_wait(&rt, file)?)
+    one_wait(&rt, file)
 }
 
 /// Waits for one byte by these IDs and owners are sent.
@@ -110,8 +103,8 @@ fn send_waits(rt: &impl Abort, file: &mut FileHistory, ids: u64) -> Result<(), S
 /// They are granted one after another, and each owner unlocks.
 fn grant_waits(rt: &impl Abort, file: &mut FileHistory, ids: u64) -> Result<(), SearchFault> {
     for id in 0..ids {
-        assert!(rt; file.answer(id, Answer::Done, ENOUGH)?);
-        assert!(rt; file.may_end(ENOUGH)?);
+        same(rt, file.answer(id, Answer::Done, ENOUGH), Ok(true));
+        same(rt, file.may_end(ENOUGH), Ok(true));
         let unlock = request(id, id, Action::Unlock(FIRST));
         ask(rt, file, unlock, Answer::Done)?;
     }
@@ -120,7 +113,7 @@ fn grant_waits(rt: &impl Abort, file: &mut FileHistory, ids: u64) -> Result<(), 
 
 /// A hundred waits for one byte, granted one after another.
 #[test]
-fn of_many_waits(rt: HostRuntime) -> Result<(), Fail> {
+fn of_many_waits(rt: HostRuntime) -> Result<(), SearchFault> {
     let mut file = FileHistory::new(rt.alloc(), false)?;
     send_waits(&rt, &mut file, 100)?;
     grant_waits(&rt, &mut file, 100)?;
@@ -144,15 +137,15 @@ fn tell_and_die(rt: &impl Abort, file: &mut FileHistory, owner: u64) -> Result<(
     };
     let get = request(owner, 1000, Action::Get(Mode::Read, span));
     send(rt, file, get, ENOUGH)?;
-    assert!(rt; !file.answer(owner, Answer::Free, ENOUGH)?);
+    same(rt, file.answer(owner, Answer::Free, ENOUGH), Ok(false));
     let held = Answer::Held(Some(owner), Mode::Write, span);
-    assert!(rt; file.answer(owner, held, ENOUGH)?);
+    same(rt, file.answer(owner, held, ENOUGH), Ok(true));
     ask(rt, file, request(owner, owner, Action::Gone), Answer::Done)
 }
 
 /// A thousand owners, each with a byte of its own, and their deaths.
 #[test]
-fn of_many_locks(rt: HostRuntime) -> Result<(), Fail> {
+fn of_many_locks(rt: HostRuntime) -> Result<(), SearchFault> {
     let mut file = FileHistory::new(rt.alloc(), true)?;
     lock_bytes(&rt, &mut file, 1000)?;
     for owner in 0..1000u64 {

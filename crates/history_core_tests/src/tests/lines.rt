@@ -1,10 +1,9 @@
 //! Lines of a file's history, each with the verdict that the standards give.
 use history_core::{Action, Answer, FileHistory, Request};
-use range_core::Span;
+use range_core::{Memory, Span};
 use std::alloc::Global;
 use std::fmt::Debug;
 use std::process::Abort;
-use std::test::Fail;
 
 /// A line of a file's history.
 #[derive(Clone, Copy)]
@@ -45,21 +44,19 @@ pub const ALL: Span = Span {
 pub const ENOUGH: usize = 1000;
 
 /// Reads these lines, each of which has its verdict, as those of a file that has no line yet.
-pub fn read(rt: &impl Abort, file: &mut FileHistory, lines: &[Line]) -> Result<(), Fail> {
+pub fn read(rt: &impl Abort, file: &mut FileHistory, lines: &[Line]) {
     for (place, line) in lines.iter().enumerate() {
-        let (id, answer, is_possible) = match *line {
+        let (told, is_possible) = match *line {
             Line::Sent(id, owner, action) => {
                 assert!(rt; !file.has_open(id), "line {place}");
-                file.send(Request { id, owner, action }, ENOUGH)?;
-                continue;
+                let sent = file.send(Request { id, owner, action }, ENOUGH);
+                (sent.map(|_| true), true)
             }
-            Line::Told(id, answer) => (id, answer, true),
-            Line::Refused(id, answer) => (id, answer, false),
+            Line::Told(id, answer) => (file.answer(id, answer, ENOUGH), true),
+            Line::Refused(id, answer) => (file.answer(id, answer, ENOUGH), false),
         };
-        let told = file.answer(id, answer, ENOUGH)?;
-        same(rt, (place, told), (place, is_possible));
+        same(rt, (place, told), (place, Ok(is_possible)));
     }
-    Ok(())
 }
 
 /// Reads each of these histories as that of a file of its own; `runs` says whether a get tells largest ranges alone.
@@ -68,9 +65,9 @@ pub fn read_each(
     alloc: Global,
     runs: bool,
     histories: &[&[Line]],
-) -> Result<(), Fail> {
+) -> Result<(), Memory> {
     for lines in histories {
-        read(rt, &mut FileHistory::new(alloc, runs)?, lines)?;
+        read(rt, &mut FileHistory::new(alloc, runs)?, lines);
     }
     Ok(())
 }

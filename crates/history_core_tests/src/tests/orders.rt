@@ -5,10 +5,9 @@ use history_core::Action::{Close, Flock, FlockWait, Get, Gone, Set, Unlock, Wait
 use history_core::Answer::{Busy, Done, Free, Held, Interrupted};
 use history_core::{Action, ByteLock, Deed, FileHistory, FlockLock, Happening, HeldLocks, Request};
 use range_core::Mode::{Read, Write};
-use range_core::{Mode, Span};
+use range_core::{Memory, Mode, Span};
 use std::alloc::AllocGlobal;
 use std::process::Abort;
-use std::test::Fail;
 
 /// Whose happening it was, by its ID, what it was, and behind how many lines it came.
 type Happened = (u64, Deed, u64);
@@ -110,19 +109,13 @@ fn effect(id: u64, owner: u64, action: Action) -> Happening {
 }
 
 /// Looks that just these happened, in this order, of which each was possible behind what is held then.
-fn apply_each(
-    rt: &impl Abort,
-    held: &mut HeldLocks,
-    order: &[Happening],
-    wanted: &[Happened],
-) -> Result<(), Fail> {
+fn apply_each(rt: &impl Abort, held: &mut HeldLocks, order: &[Happening], wanted: &[Happened]) {
     same(rt, order.len(), wanted.len());
     for (happening, wanted) in order.iter().zip(wanted) {
         let happened = (happening.request.id, happening.deed, happening.behind);
         same(rt, happened, *wanted);
-        assert!(rt; held.apply(*happening)?);
+        same(rt, held.apply(*happening), Ok(true));
     }
-    Ok(())
 }
 
 /// Looks that the order of the lines is this one, and that it leaves these byte locks and flock locks.
@@ -132,12 +125,12 @@ fn is_order(
     wanted: &[Happened],
     bytes: &[ByteLock],
     flocks: &[FlockLock],
-) -> Result<(), Fail> {
+) -> Result<(), Memory> {
     let mut file = FileHistory::keeping_order(rt.alloc(), false)?;
-    read(rt, &mut file, lines)?;
+    read(rt, &mut file, lines);
     let order = file.order()?.expect(rt, "an order is kept");
     let mut held = HeldLocks::new(rt.alloc());
-    apply_each(rt, &mut held, &order, wanted)?;
+    apply_each(rt, &mut held, &order, wanted);
     same(rt, held.byte_locks(), bytes);
     same(rt, held.flock_locks(rt.alloc())?.as_slice(), flocks);
     Ok(())
@@ -206,7 +199,7 @@ const ORDERS: &[Order] = &[
 ];
 
 #[test]
-fn of_orders(rt: HostRuntime) -> Result<(), Fail> {
+fn of_orders(rt: HostRuntime) -> Result<(), Memory> {
     for (lines, wanted, bytes, flocks) in ORDERS {
         is_order(&rt, lines, wanted, bytes, flocks)?;
     }
@@ -215,49 +208,52 @@ fn of_orders(rt: HostRuntime) -> Result<(), Fail> {
 
 /// Where no order is kept, none is told.
 #[test]
-fn of_no_order(rt: HostRuntime) -> Result<(), Fail> {
+fn of_no_order(rt: HostRuntime) -> Result<(), Memory> {
     let mut file = FileHistory::new(rt.alloc(), false)?;
-    read(&rt, &mut file, GRANTED)?;
-    assert!(rt; file.order()?.is_none());
+    read(&rt, &mut file, GRANTED);
+    same(&rt, file.order()?.is_none(), true);
     Ok(())
 }
 
-/// Effects in turn, by ID and owner, each with whether it is possible; one that isn't changes nothing.
-fn take_effect(rt: &impl Abort, held: &mut HeldLocks) -> Result<(), Fail> {
-    let span = |first: u64, last: u64| Span { first, last };
-    for (id, owner, action, is_possible) in [
-        (1, 2, Set(Read, span(5, 9)), true),
-        (2, 1, Wait(Write, span(0, 3)), true),
-        (3, 1, Set(Write, span(4, 4)), true),
-        (4, 1, Set(Read, span(2, 2)), true),
-        (5, 3, Set(Write, span(9, 9)), true),
-        (6, 3, Flock(Read), true),
-        (7, 2, Flock(Read), true),
-        (8, 4, FlockWait(Write), false),
-        (9, 4, Wait(Read, span(0, 0)), false),
-    ] {
-        let is_done = held.apply(effect(id, owner, action))?;
-        assert!(rt; is_done == is_possible, "effect {id}");
-    }
-    Ok(())
+/// The bytes of a range by its first and its last one.
+fn span(first: u64, last: u64) -> Span {
+    Span { first, last }
+}
+
+/// The request has its effect, or can't have it, and then it changes nothing.
+fn is_effect(rt: &impl Abort, held: &mut HeldLocks, happening: Happening, is_possible: bool) {
+    let id = happening.request.id;
+    same(rt, (id, held.apply(happening)), (id, Ok(is_possible)));
+}
+
+/// Effects in turn, each with whether it is possible.
+fn take_effect(rt: &impl Abort, held: &mut HeldLocks) {
+    is_effect(rt, held, effect(1, 2, Set(Read, span(5, 9))), true);
+    is_effect(rt, held, effect(2, 1, Wait(Write, span(0, 3))), true);
+    is_effect(rt, held, effect(3, 1, Set(Write, span(4, 4))), true);
+    is_effect(rt, held, effect(4, 1, Set(Read, span(2, 2))), true);
+    is_effect(rt, held, effect(5, 3, Set(Write, span(9, 9))), true);
+    is_effect(rt, held, effect(6, 3, Flock(Read)), true);
+    is_effect(rt, held, effect(7, 2, Flock(Read)), true);
+    is_effect(rt, held, effect(8, 4, FlockWait(Write)), false);
+    is_effect(rt, held, effect(9, 4, Wait(Read, span(0, 0))), false);
 }
 
 /// An owner that waits for a flock lets its old lock go, where it has one.
-fn let_go(rt: &impl Abort, held: &mut HeldLocks) -> Result<(), Fail> {
+fn let_go(rt: &impl Abort, held: &mut HeldLocks) {
     let mut loss = effect(10, 4, FlockWait(Write));
     loss.deed = Deed::LetGo;
-    assert!(rt; !held.apply(loss)?);
+    same(rt, held.apply(loss), Ok(false));
     loss.request.owner = 3;
-    assert!(rt; held.apply(loss)?);
-    Ok(())
+    same(rt, held.apply(loss), Ok(true));
 }
 
 /// The locks that happenings leave, by owner and first byte, in largest ranges; what isn't possible changes nothing.
 #[test]
-fn of_locks(rt: HostRuntime) -> Result<(), Fail> {
+fn of_locks(rt: HostRuntime) -> Result<(), Memory> {
     let mut held = HeldLocks::new(rt.alloc());
-    take_effect(&rt, &mut held)?;
-    let_go(&rt, &mut held)?;
+    take_effect(&rt, &mut held);
+    let_go(&rt, &mut held);
     let bytes = [
         lock(1, Write, 0, 1),
         lock(1, Read, 2, 2),
@@ -275,7 +271,7 @@ fn of_locks(rt: HostRuntime) -> Result<(), Fail> {
 }
 
 /// Owners in turn set a lock and remove it, each request by the same ID.
-fn set_and_unlock(rt: &impl Abort, file: &mut FileHistory, requests: u64) -> Result<(), Fail> {
+fn set_and_unlock(rt: &impl Abort, file: &mut FileHistory, requests: u64) {
     for number in 0..requests {
         let action = if number % 2 == 0 {
             Set(Write, TEN)
@@ -288,32 +284,30 @@ fn set_and_unlock(rt: &impl Abort, file: &mut FileHistory, requests: u64) -> Res
             action,
         };
         assert!(rt; !file.has_open(7));
-        file.send(request, ENOUGH)?;
-        assert!(rt; file.answer(7, Done, ENOUGH)?);
+        same(rt, file.send(request, ENOUGH), Ok(()));
+        same(rt, file.answer(7, Done, ENOUGH), Ok(true));
     }
-    Ok(())
 }
 
 /// The order is that of the requests, and each happening comes behind the line of its own.
-fn are_in_turn(rt: &impl Abort, held: &mut HeldLocks, order: &[Happening]) -> Result<(), Fail> {
+fn are_in_turn(rt: &impl Abort, held: &mut HeldLocks, order: &[Happening]) {
     for (number, happening) in order.iter().enumerate() {
         let (owner, behind) = (happening.request.owner, happening.behind);
         let number = number as u64;
         same(rt, (owner, behind / 2, behind % 2), (number / 2, number, 1));
-        assert!(rt; held.apply(*happening)?);
+        same(rt, held.apply(*happening), Ok(true));
     }
-    Ok(())
 }
 
 /// Tens of thousands of requests, one after another.
 #[test]
-fn of_long_orders(rt: HostRuntime) -> Result<(), Fail> {
+fn of_long_orders(rt: HostRuntime) -> Result<(), Memory> {
     let mut file = FileHistory::keeping_order(rt.alloc(), false)?;
-    set_and_unlock(&rt, &mut file, 30_000)?;
+    set_and_unlock(&rt, &mut file, 30_000);
     let order = file.order()?.expect(&rt, "an order is kept");
     same(&rt, order.len(), 30_000);
     let mut held = HeldLocks::new(rt.alloc());
-    are_in_turn(&rt, &mut held, &order)?;
+    are_in_turn(&rt, &mut held, &order);
     same(&rt, held.byte_locks().len(), 0);
     Ok(())
 }
