@@ -260,6 +260,11 @@ fn assert_stands(rt: &impl Abort, session: &Session, before: &Standing) {
     same(rt, after.waits.as_slice(), before.waits.as_slice());
 }
 
+/// Whether a growth was refused.
+fn is_refused(arrived: &Result<u64, ArriveFault>) -> bool {
+    matches!(arrived, Err(ArriveFault::Memory(_)))
+}
+
 /// [`Session::arrive`].
 fn arrive_once(
     rt: &impl Abort,
@@ -279,18 +284,18 @@ fn arrive(
     request: Request,
 ) -> Result<u64, ArriveFault> {
     let before = standing_of(rt, session);
-    match arrive_once(rt, session, p, request) {
-        Err(ArriveFault::Memory(_)) => {
-            assert_stands(rt, session, &before);
-            let second = arrive_once(rt, session, p, request);
-            assert!(rt;
-                !matches!(second, Err(ArriveFault::Memory(_))),
-                "refused again"
-            );
-            second
-        },
-        first => first,
+    let first = arrive_once(rt, session, p, request);
+    if !is_refused(&first) {
+        return first;
     }
+    assert_stands(rt, session, &before);
+    let second = arrive_once(rt, session, p, request);
+    same(
+        rt,
+        ("made again", is_refused(&second)),
+        ("made again", false),
+    );
+    second
 }
 
 /// `take_next`, likewise.
@@ -367,23 +372,50 @@ fn holds(rt: &impl Abort, session: &Session, wanted: &[Kept]) -> bool {
     locks.len() == wanted.len()
 }
 
-/// The step is made, or looked at: whether it came out so.
-fn comes_out(rt: &impl Abort, session: &mut Session, step: Step) -> Result<bool, ArriveFault> {
-    Ok(match step {
-        Step::Asks(p, ask) => {
-            arrive(rt, session, p, ask.request())?;
-            take_all(rt, session);
-            true
-        }
-        Step::Sends(p, ask, n) => arrive(rt, session, p, ask.request())? == n,
-        Step::Takes(place) => take_next(rt, session) == place,
-        Step::TakesOne(p, ask, place) => take_one(rt, session, p, ask.request()) == place,
+/// The request arrives, and all that can be taken is taken.
+fn asks(
+    rt: &impl Abort,
+    session: &mut Session,
+    p: u8,
+    request: Request,
+) -> Result<bool, ArriveFault> {
+    arrive(rt, session, p, request)?;
+    take_all(rt, session);
+    Ok(true)
+}
+
+/// The request arrives, and is its process' so many-th.
+fn sends(
+    rt: &impl Abort,
+    session: &mut Session,
+    p: u8,
+    (request, wanted): (Request, u64),
+) -> Result<bool, ArriveFault> {
+    let n = arrive(rt, session, p, request)?;
+    Ok(n == wanted)
+}
+
+/// The session shows this.
+fn shows(rt: &impl Abort, session: &Session, step: Step) -> bool {
+    match step {
         Step::Counts(wanted) => counts(session) == wanted,
         Step::Told(place, said) => told(session, place, said),
         Step::Answered(p, n, reply) => session.answer_of(p, n) == reply,
         Step::Stands(p, state) => session.manager().state_of(p) == state,
         Step::Holds(locks) => holds(rt, session, locks),
-    })
+        _ => false,
+    }
+}
+
+/// The step is made, or looked at: whether it came out so.
+fn comes_out(rt: &impl Abort, session: &mut Session, step: Step) -> Result<bool, ArriveFault> {
+    match step {
+        Step::Asks(p, ask) => asks(rt, session, p, ask.request()),
+        Step::Sends(p, ask, n) => sends(rt, session, p, (ask.request(), n)),
+        Step::Takes(place) => Ok(take_next(rt, session) == place),
+        Step::TakesOne(p, ask, place) => Ok(take_one(rt, session, p, ask.request()) == place),
+        other => Ok(shows(rt, session, other)),
+    }
 }
 
 /// Each of the steps comes out as it says.
@@ -394,7 +426,8 @@ fn assert_comes_out(
     steps: &[Step],
 ) -> Result<(), ArriveFault> {
     for (index, step) in steps.iter().enumerate() {
-        assert!(rt; comes_out(rt, session, *step)?, "{name}: step {index}");
+        let came_out = comes_out(rt, session, *step)?;
+        same(rt, (name, index, came_out), (name, index, true));
     }
     Ok(())
 }
@@ -425,7 +458,7 @@ fn run_of_two(
     match run_all(alloc, 2, RULES, arrivals) {
         Err(RunAllFault::Memory(_)) => {
             let second = run_all(alloc, 2, RULES, arrivals);
-            assert!(rt; second.is_ok(), "refused again");
+            same(rt, ("made again", second.is_ok()), ("made again", true));
             second
         }
         first => first,

@@ -2,7 +2,7 @@
 ghost use Rattle.std.specs.Prelude.{◌≤◌};
 
 use super::judged::{CASES, THIRD_UNLOCKS, WORKED};
-use super::{Ask, RULES, Said, again, is_told};
+use super::{Ask, RULES, Said, again, is_told, same};
 use lock_manager::{ProcState, Reply};
 use range_core::{Kind, Memory};
 use session_core::{CheckFault, Entry, Expected, JournalChecker, Notes, check_journal};
@@ -88,19 +88,21 @@ fn checker_of(rt: &impl Abort, alloc: Global, processes: u8) -> JournalChecker
     }
 }
 
-/// How many of the entries are accepted in turn before one is illegal. A refused growth must leave all as it was.
+/// What the checker says of the next entry. A refused growth must leave all as it was.
+fn next(rt: &impl Abort, checker: &mut JournalChecker, entry: &Entry) -> Result<(), CheckFault> {
+    let answer = match checker.next(entry) {
+        Err(CheckFault::Memory(_)) => checker.next(entry),
+        first => first,
+    };
+    let is_refused = matches!(answer, Err(CheckFault::Memory(_)));
+    same(rt, ("made again", is_refused), ("made again", false));
+    answer
+}
+
+/// How many of the entries are accepted in turn before one is illegal.
 fn accepted(rt: &impl Abort, checker: &mut JournalChecker, entries: &[Entry]) -> usize {
     for (place, entry) in entries.iter().enumerate() {
-        let first = checker.next(entry);
-        let answer = match first {
-            Err(CheckFault::Memory(_)) => checker.next(entry),
-            first => first,
-        };
-        assert!(rt;
-            !matches!(answer, Err(CheckFault::Memory(_))),
-            "refused again"
-        );
-        if answer.is_err() {
+        if next(rt, checker, entry).is_err() {
             return place;
         }
     }
@@ -109,12 +111,27 @@ fn accepted(rt: &impl Abort, checker: &mut JournalChecker, entries: &[Entry]) ->
 
 /// Whether the checker expected that.
 fn is_expected(checker: &JournalChecker, wanted: Expects) -> bool {
-    match (checker.expected(), wanted) {
-        (None, Expects::Nothing) => true,
-        (Some(Expected::Notes(notes)), Expects::Notes(said)) => is_told(notes.as_slice(), said),
-        (Some(Expected::NumberAfter(taken)), Expects::NumberAfter(count)) => *taken == count,
-        (Some(Expected::NoRequest(stands)), Expects::NoRequest(state)) => *stands == state,
-        _ => false,
+    match checker.expected() {
+        Some(expected) => is_so_expected(expected, wanted),
+        None => matches!(wanted, Expects::Nothing),
+    }
+}
+
+/// Whether it is that.
+fn is_so_expected(expected: &Expected, wanted: Expects) -> bool {
+    match expected {
+        Expected::Notes(notes) => match wanted {
+            Expects::Notes(said) => is_told(notes.as_slice(), said),
+            _ => false,
+        },
+        Expected::NumberAfter(taken) => match wanted {
+            Expects::NumberAfter(count) => *taken == count,
+            _ => false,
+        },
+        Expected::NoRequest(stands) => match wanted {
+            Expects::NoRequest(state) => *stands == state,
+            _ => false,
+        },
     }
 }
 
@@ -155,7 +172,8 @@ fn is_case_judged(rt: &impl Abort, alloc: Global, case: &Case) -> Result<bool, M
 
 fn assert_judged(rt: &impl Abort, alloc: Global, case: &Case) -> Result<(), Memory> {
     assert!(rt; 1 <= case.processes && case.processes <= 16);
-    assert!(rt; is_case_judged(rt, alloc, case)?, "{}", case.name);
+    let is_judged = is_case_judged(rt, alloc, case)?;
+    same(rt, (case.name, is_judged), (case.name, true));
     Ok(())
 }
 
@@ -285,7 +303,7 @@ fn tells_both(
 #[test]
 fn a_checker_tells_the_state_and_the_counts(rt: HostRuntime) -> Result<(), Fail> {
     let mut checker = checker_of(&rt, rt.alloc(), 3);
-    assert!(rt; tells_both(&rt, rt.alloc(), &mut checker)?);
+    same(&rt, tells_both(&rt, rt.alloc(), &mut checker)?, true);
     Ok(())
 }
 
@@ -338,6 +356,6 @@ fn accepts_often(
 #[test]
 fn a_checker_accepts_entries_often(rt: HostRuntime) -> Result<(), Fail> {
     let mut checker = checker_of(&rt, rt.alloc(), 3);
-    assert!(rt; accepts_often(&rt, rt.alloc(), &mut checker)?);
+    same(&rt, accepts_often(&rt, rt.alloc(), &mut checker)?, true);
     Ok(())
 }
