@@ -7,12 +7,14 @@ use history_core::Action;
 use history_text::{HistoryLine, read_head};
 use range_core::{Mode, Span};
 use script_core::{Cause, WORDS_MAX};
+use std::fmt::Debug;
+use std::process::Abort;
 
 /// The first two bytes of a file.
 const FRONT: Span = Span { first: 0, last: 1 };
 
 /// An open request of each kind: its ID, and what it asks for.
-const OPEN: [(u64, Action); 9] = [
+const OPEN: &[(u64, Action)] = &[
     (1, Action::Set(Mode::Read, FRONT)),
     (2, Action::Wait(Mode::Write, FRONT)),
     (3, Action::Get(Mode::Write, FRONT)),
@@ -27,11 +29,16 @@ const OPEN: [(u64, Action); 9] = [
 /// What the open request of this ID asks for.
 fn requested(id: u64) -> Option<Action> {
     for (open, action) in OPEN {
-        if open == id {
-            return Some(action);
+        if *open == id {
+            return Some(*action);
         }
     }
     None
+}
+
+/// The two are the same.
+fn same<T: PartialEq + Debug + Drop>(rt: &impl Abort, left: T, right: T) {
+    assert_eq!(rt; left, right);
 }
 
 /// What a line says while the requests of [`OPEN`] are open.
