@@ -7,7 +7,8 @@ mod orders;
 use history_check::{HistoryCheck, HistoryOutcome, Judging, LockStates};
 use history_core::SearchFault;
 use std::alloc::Global;
-use std::test::Fail;
+use std::fmt::Debug;
+use std::process::Abort;
 
 /// How most texts are judged.
 const PLAIN: Judging = Judging {
@@ -36,13 +37,18 @@ const ORDER: Judging = Judging {
     limit: 1000,
 };
 
+/// The two are the same.
+fn same<T: PartialEq + Debug + Drop>(rt: &impl Abort, left: T, right: T) {
+    assert_eq!(rt; left, right);
+}
+
 /// The verdict of a text that comes in two pieces, cut behind so many bytes, and what is told of it.
 fn judge(
     alloc: Global,
     judging: Judging,
     text: &[u8],
     cut: usize,
-) -> Result<(HistoryOutcome, Vec<u8>), Fail> {
+) -> Result<(HistoryOutcome, Vec<u8>), SearchFault> {
     let (front, rest) = text.split_at(cut.min(text.len()));
     let mut check = HistoryCheck::new(alloc, judging);
     check.take_all(front)?;
