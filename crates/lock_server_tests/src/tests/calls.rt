@@ -2,8 +2,7 @@
 ghost use Rattle.range_core.specs.Ranges.{IsByteRange};
 
 use lock_server::{
-    Answer, Conversion, Counts, LockServer, Memory, Mode, Policy, Rules, Span, WaitAnswer,
-    WaitFault,
+    Answer, Conversion, LockServer, Memory, Mode, Policy, Rules, Span, WaitAnswer, WaitFault,
 };
 use range_core::OFFMAX;
 use std::fmt::Debug;
@@ -80,7 +79,7 @@ pub(super) enum Told {
     /// Whether there is a lock.
     Having(bool),
     /// How many runs, flock locks and waits there are.
-    Counts(Counts),
+    Counts(usize, usize, usize),
 }
 
 /// The file, the call, and what it tells.
@@ -142,9 +141,15 @@ pub(super) fn serve(server: &mut LockServer, file: u64, call: Call) -> Result<To
             false => Ok(Told::Nothing),
         },
         Call::HasLocks(first, last) => Ok(Told::Having(server.has_locks(first, last))),
-        Call::Counts(first, last) => Ok(Told::Counts(server.counts(first, last))),
+        Call::Counts(first, last) => Ok(counts_told(server, first, last)),
         other => end(server, file, other),
     }
+}
+
+/// How much the owners have.
+fn counts_told(server: &LockServer, first: u64, last: u64) -> Told {
+    let counts = server.counts(first, last);
+    Told::Counts(counts.runs, counts.flock_locks, counts.waits)
 }
 
 /// What is in the way of the owner.
@@ -174,7 +179,7 @@ fn end(server: &mut LockServer, file: u64, call: Call) -> Result<Told, Memory> {
 pub(super) fn tells(rt: &impl Abort, server: &mut LockServer, rows: &[Row]) -> Result<(), Memory> {
     for (file, call, wanted) in rows {
         let told = serve(server, *file, *call)?;
-        assert!(rt; told == *wanted, "file {file}");
+        same(rt, (*file, told == *wanted), (*file, true));
     }
     Ok(())
 }

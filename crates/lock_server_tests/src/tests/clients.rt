@@ -1,172 +1,121 @@
 //! Clients and files that are gone, and what clients have. A client here is a range of owner numbers.
-use super::calls::{ALL, Call, Told, stepwise, tells};
+use super::calls::{ALL, Call, Row, Told, stepwise, tells};
 use super::model::{FILES, Model, OWNERS};
 use super::rule::Rule;
 use lock_server::Mode::{Read, Write};
-use lock_server::{Counts, LockServer, Memory, Policy};
+use lock_server::{LockServer, Memory, Policy};
 use std::process::Abort;
 use std::test::Fail;
 
-/// So many runs, flock locks and waits.
-fn counts(runs: usize, flock_locks: usize, waits: usize) -> Told {
-    Told::Counts(Counts {
-        runs,
-        flock_locks,
-        waits,
-    })
-}
-
 /// Owners 10 to 19 are one client, and owners 20 to 29 another.
-fn locks_of_two(rt: &impl Abort, server: &mut LockServer) -> Result<(), Memory> {
-    tells(
-        rt,
-        server,
-        &[
-            (7, Call::Set(10, (0, 9), Some(Write)), Told::Done),
-            (7, Call::Set(10, (4, 5), Some(Read)), Told::Done),
-            (9, Call::Set(19, (0, 9), Some(Write)), Told::Done),
-            (7, Call::Set(20, (20, 29), Some(Write)), Told::Done),
-            (7, Call::Flock(15, Some(Write)), Told::Done),
-            (8, Call::Flock(20, Some(Read)), Told::Done),
-            (8, Call::Flock(19, Some(Read)), Told::Done),
-        ],
-    )
-}
+const LOCKS_OF_TWO: &[Row] = &[
+    (7, Call::Set(10, (0, 9), Some(Write)), Told::Done),
+    (7, Call::Set(10, (4, 5), Some(Read)), Told::Done),
+    (9, Call::Set(19, (0, 9), Some(Write)), Told::Done),
+    (7, Call::Set(20, (20, 29), Some(Write)), Told::Done),
+    (7, Call::Flock(15, Some(Write)), Told::Done),
+    (8, Call::Flock(20, Some(Read)), Told::Done),
+    (8, Call::Flock(19, Some(Read)), Told::Done),
+];
 
 /// Waits of both for what the other one has, and of one for what it has itself.
-fn waits_of_two(rt: &impl Abort, server: &mut LockServer) -> Result<(), Memory> {
-    tells(
-        rt,
-        server,
-        &[
-            (9, Call::Wait(1, 21, (9, 9), Read, true), Told::Waits),
-            (7, Call::FlockWait(2, 20, Read), Told::Waits),
-            (9, Call::Wait(3, 11, (0, 0), Write, true), Told::Waits),
-            (7, Call::Wait(4, 12, (20, 20), Read, true), Told::Waits),
-            (8, Call::FlockWait(5, 10, Write), Told::Waits),
-            (7, Call::Wait(6, 22, (0, 0), Write, true), Told::Waits),
-            (7, Call::Wait(7, 22, (3, 6), Write, false), Told::Waits),
-        ],
-    )
-}
+const WAITS_OF_TWO: &[Row] = &[
+    (9, Call::Wait(1, 21, (9, 9), Read, true), Told::Waits),
+    (7, Call::FlockWait(2, 20, Read), Told::Waits),
+    (9, Call::Wait(3, 11, (0, 0), Write, true), Told::Waits),
+    (7, Call::Wait(4, 12, (20, 20), Read, true), Told::Waits),
+    (8, Call::FlockWait(5, 10, Write), Told::Waits),
+    (7, Call::Wait(6, 22, (0, 0), Write, true), Told::Waits),
+    (7, Call::Wait(7, 22, (3, 6), Write, false), Told::Waits),
+];
 
 /// What each has.
-fn count_two(rt: &impl Abort, server: &mut LockServer) -> Result<(), Memory> {
-    tells(
-        rt,
-        server,
-        &[
-            (0, Call::Counts(10, 19), counts(4, 2, 3)),
-            (0, Call::Counts(20, 29), counts(1, 1, 4)),
-            (0, Call::Counts(0, u64::MAX), counts(5, 3, 7)),
-            (0, Call::Counts(11, 14), counts(0, 0, 2)),
-            (0, Call::Counts(19, 10), counts(0, 0, 0)),
-            (0, Call::HasLocks(10, 10), Told::Having(true)),
-            (0, Call::HasLocks(15, 15), Told::Having(true)),
-            (0, Call::HasLocks(11, 14), Told::Having(false)),
-            (0, Call::HasLocks(20, 10), Told::Having(false)),
-            (0, Call::HasLocks(21, u64::MAX), Told::Having(false)),
-        ],
-    )
-}
+const COUNTS_OF_TWO: &[Row] = &[
+    (0, Call::Counts(10, 19), Told::Counts(4, 2, 3)),
+    (0, Call::Counts(20, 29), Told::Counts(1, 1, 4)),
+    (0, Call::Counts(0, u64::MAX), Told::Counts(5, 3, 7)),
+    (0, Call::Counts(11, 14), Told::Counts(0, 0, 2)),
+    (0, Call::Counts(19, 10), Told::Counts(0, 0, 0)),
+    (0, Call::HasLocks(10, 10), Told::Having(true)),
+    (0, Call::HasLocks(15, 15), Told::Having(true)),
+    (0, Call::HasLocks(11, 14), Told::Having(false)),
+    (0, Call::HasLocks(20, 10), Told::Having(false)),
+    (0, Call::HasLocks(21, u64::MAX), Told::Having(false)),
+];
 
 /// The client is gone: each file is settled once all of it has left, so ticket 7 isn't granted before ticket 6, the files rise, and in a
 /// file the order is that of arrival. Its own waits are told no more.
-fn one_goes(rt: &impl Abort, server: &mut LockServer) -> Result<(), Memory> {
-    tells(
-        rt,
-        server,
-        &[
-            (0, Call::ForgetOwners(19, 10), Told::Done),
-            (0, Call::Grant, Told::Nothing),
-            (0, Call::ForgetOwners(10, 19), Told::Done),
-            (0, Call::Grant, Told::Granted(2)),
-            (0, Call::Grant, Told::Granted(6)),
-            (0, Call::Grant, Told::Granted(7)),
-            (0, Call::Grant, Told::Granted(1)),
-            (0, Call::Grant, Told::Nothing),
-            (0, Call::Counts(10, 19), counts(0, 0, 0)),
-            (0, Call::HasLocks(10, 19), Told::Having(false)),
-            (0, Call::Counts(20, 29), counts(4, 2, 0)),
-            (7, Call::Cancel(4), Told::Nothing),
-            (8, Call::Flock(20, Some(Write)), Told::Done),
-            (7, Call::Get(1, ALL, Read), Told::Lock(22, Write, (0, 0))),
-        ],
-    )
-}
+const ONE_GOES: &[Row] = &[
+    (0, Call::ForgetOwners(19, 10), Told::Done),
+    (0, Call::Grant, Told::Nothing),
+    (0, Call::ForgetOwners(10, 19), Told::Done),
+    (0, Call::Grant, Told::Granted(2)),
+    (0, Call::Grant, Told::Granted(6)),
+    (0, Call::Grant, Told::Granted(7)),
+    (0, Call::Grant, Told::Granted(1)),
+    (0, Call::Grant, Told::Nothing),
+    (0, Call::Counts(10, 19), Told::Counts(0, 0, 0)),
+    (0, Call::HasLocks(10, 19), Told::Having(false)),
+    (0, Call::Counts(20, 29), Told::Counts(4, 2, 0)),
+    (7, Call::Cancel(4), Told::Nothing),
+    (8, Call::Flock(20, Some(Write)), Told::Done),
+    (7, Call::Get(1, ALL, Read), Told::Lock(22, Write, (0, 0))),
+];
 
 /// A grant that wasn't fetched stays, though its owner is gone, and its ticket is taken as long.
-fn grants_stay(rt: &impl Abort, server: &mut LockServer) -> Result<(), Memory> {
-    tells(
-        rt,
-        server,
-        &[
-            (7, Call::Set(1, (0, 9), Some(Write)), Told::Done),
-            (7, Call::Wait(1, 2, (0, 9), Write, true), Told::Waits),
-            (7, Call::Flush(1), Told::Done),
-            (0, Call::ForgetOwners(2, 2), Told::Done),
-            (7, Call::Wait(1, 3, (0, 9), Write, true), Told::Taken),
-            (0, Call::Grant, Told::Granted(1)),
-            (0, Call::Grant, Told::Nothing),
-            (7, Call::Set(3, (0, 9), Some(Write)), Told::Done),
-            (7, Call::Wait(1, 4, (0, 9), Write, true), Told::Waits),
-            (7, Call::Flush(3), Told::Done),
-            (7, Call::ForgetFile, Told::Done),
-            (0, Call::Grant, Told::Granted(1)),
-            (7, Call::Set(5, ALL, Some(Write)), Told::Done),
-        ],
-    )
-}
+const GRANTS_STAY: &[Row] = &[
+    (7, Call::Set(1, (0, 9), Some(Write)), Told::Done),
+    (7, Call::Wait(1, 2, (0, 9), Write, true), Told::Waits),
+    (7, Call::Flush(1), Told::Done),
+    (0, Call::ForgetOwners(2, 2), Told::Done),
+    (7, Call::Wait(1, 3, (0, 9), Write, true), Told::Taken),
+    (0, Call::Grant, Told::Granted(1)),
+    (0, Call::Grant, Told::Nothing),
+    (7, Call::Set(3, (0, 9), Some(Write)), Told::Done),
+    (7, Call::Wait(1, 4, (0, 9), Write, true), Told::Waits),
+    (7, Call::Flush(3), Told::Done),
+    (7, Call::ForgetFile, Told::Done),
+    (0, Call::Grant, Told::Granted(1)),
+    (7, Call::Set(5, ALL, Some(Write)), Told::Done),
+];
 
 /// A file is gone with its locks, its waits and what was noted, and nothing is granted; other files stay.
-fn file_goes(rt: &impl Abort, server: &mut LockServer) -> Result<(), Memory> {
-    tells(
-        rt,
-        server,
-        &[
-            (7, Call::Note(1, 50), Told::Done),
-            (7, Call::Set(1, (0, 9), Some(Write)), Told::Done),
-            (8, Call::Set(1, (0, 9), Some(Write)), Told::Done),
-            (7, Call::Flock(1, Some(Write)), Told::Done),
-            (7, Call::Wait(1, 2, (0, 0), Write, true), Told::Waits),
-            (7, Call::Wait(2, 3, (0, 0), Write, true), Told::Waits),
-            (7, Call::FlockWait(3, 2, Write), Told::Waits),
-            (8, Call::Wait(4, 2, (0, 0), Write, true), Told::Waits),
-            (7, Call::ForgetFile, Told::Done),
-            (0, Call::Grant, Told::Nothing),
-            (0, Call::Counts(0, u64::MAX), counts(1, 0, 1)),
-            (7, Call::Set(1, (0, 9), Some(Read)), Told::Done),
-            (7, Call::Release(50, None), Told::Done),
-            (7, Call::Set(3, (0, 9), Some(Write)), Told::Blocked),
-            (7, Call::Wait(1, 3, (0, 9), Write, true), Told::Waits),
-        ],
-    )
-}
+const FILE_GOES: &[Row] = &[
+    (7, Call::Note(1, 50), Told::Done),
+    (7, Call::Set(1, (0, 9), Some(Write)), Told::Done),
+    (8, Call::Set(1, (0, 9), Some(Write)), Told::Done),
+    (7, Call::Flock(1, Some(Write)), Told::Done),
+    (7, Call::Wait(1, 2, (0, 0), Write, true), Told::Waits),
+    (7, Call::Wait(2, 3, (0, 0), Write, true), Told::Waits),
+    (7, Call::FlockWait(3, 2, Write), Told::Waits),
+    (8, Call::Wait(4, 2, (0, 0), Write, true), Told::Waits),
+    (7, Call::ForgetFile, Told::Done),
+    (0, Call::Grant, Told::Nothing),
+    (0, Call::Counts(0, u64::MAX), Told::Counts(1, 0, 1)),
+    (7, Call::Set(1, (0, 9), Some(Read)), Told::Done),
+    (7, Call::Release(50, None), Told::Done),
+    (7, Call::Set(3, (0, 9), Some(Write)), Told::Blocked),
+    (7, Call::Wait(1, 3, (0, 9), Write, true), Told::Waits),
+];
 
 /// A note of an owner that is gone is gone too: its number may be used again.
-fn notes_go(rt: &impl Abort, server: &mut LockServer) -> Result<(), Memory> {
-    tells(
-        rt,
-        server,
-        &[
-            (7, Call::Note(10, 50), Told::Done),
-            (7, Call::Note(20, 50), Told::Done),
-            (0, Call::ForgetOwners(10, 19), Told::Done),
-            (7, Call::Set(10, (0, 0), Some(Write)), Told::Done),
-            (7, Call::Set(20, (1, 1), Some(Write)), Told::Done),
-            (7, Call::Release(50, None), Told::Done),
-            (0, Call::HasLocks(10, 10), Told::Having(true)),
-            (0, Call::HasLocks(20, 20), Told::Having(false)),
-        ],
-    )
-}
+const NOTES_GO: &[Row] = &[
+    (7, Call::Note(10, 50), Told::Done),
+    (7, Call::Note(20, 50), Told::Done),
+    (0, Call::ForgetOwners(10, 19), Told::Done),
+    (7, Call::Set(10, (0, 0), Some(Write)), Told::Done),
+    (7, Call::Set(20, (1, 1), Some(Write)), Told::Done),
+    (7, Call::Release(50, None), Told::Done),
+    (0, Call::HasLocks(10, 10), Told::Having(true)),
+    (0, Call::HasLocks(20, 20), Told::Having(false)),
+];
 
 /// Two clients come, and one of them goes.
 fn two_clients(rt: &impl Abort, server: &mut LockServer) -> Result<(), Memory> {
-    locks_of_two(rt, server)?;
-    waits_of_two(rt, server)?;
-    count_two(rt, server)?;
-    one_goes(rt, server)
+    tells(rt, server, LOCKS_OF_TWO)?;
+    tells(rt, server, WAITS_OF_TWO)?;
+    tells(rt, server, COUNTS_OF_TWO)?;
+    tells(rt, server, ONE_GOES)
 }
 
 #[test]
@@ -174,30 +123,28 @@ fn clients_and_files_go(rt: HostRuntime) -> Result<(), Fail> {
     for policy in [Policy::Held, Policy::Queue] {
         let rules = stepwise(policy);
         two_clients(&rt, &mut LockServer::new(rt.alloc(), rules))?;
-        grants_stay(&rt, &mut LockServer::new(rt.alloc(), rules))?;
-        file_goes(&rt, &mut LockServer::new(rt.alloc(), rules))?;
-        notes_go(&rt, &mut LockServer::new(rt.alloc(), rules))?;
+        for rows in [GRANTS_STAY, FILE_GOES, NOTES_GO] {
+            tells(&rt, &mut LockServer::new(rt.alloc(), rules), rows)?;
+        }
     }
     Ok(())
 }
 
 /// A wait that is gone closes no cycle, and a lock that is gone blocks none.
+const NO_CYCLE: &[Row] = &[
+    (1, Call::Set(1, (0, 0), Some(Write)), Told::Done),
+    (2, Call::Set(2, (0, 0), Some(Write)), Told::Done),
+    (1, Call::Wait(1, 2, (0, 0), Write, true), Told::Waits),
+    (2, Call::Wait(2, 1, (0, 0), Write, true), Told::Deadlock),
+    (0, Call::ForgetOwners(2, 2), Told::Done),
+    (2, Call::Wait(2, 1, (0, 0), Write, true), Told::Done),
+    (0, Call::Grant, Told::Nothing),
+];
+
 #[test]
 fn gone_owners_close_no_cycle(rt: HostRuntime) -> Result<(), Fail> {
     let server = &mut LockServer::new(rt.alloc(), stepwise(Policy::Held));
-    Ok(tells(
-        &rt,
-        server,
-        &[
-            (1, Call::Set(1, (0, 0), Some(Write)), Told::Done),
-            (2, Call::Set(2, (0, 0), Some(Write)), Told::Done),
-            (1, Call::Wait(1, 2, (0, 0), Write, true), Told::Waits),
-            (2, Call::Wait(2, 1, (0, 0), Write, true), Told::Deadlock),
-            (0, Call::ForgetOwners(2, 2), Told::Done),
-            (2, Call::Wait(2, 1, (0, 0), Write, true), Told::Done),
-            (0, Call::Grant, Told::Nothing),
-        ],
-    )?)
+    Ok(tells(&rt, server, NO_CYCLE)?)
 }
 
 /// Two thousand owners of a client, each with a lock on a file of its own, and one of each family and a wait on a file that all share.
@@ -226,38 +173,36 @@ fn many_come(rt: &impl Abort, server: &mut LockServer) -> Result<(), Memory> {
     Ok(())
 }
 
+/// Another owner has locks on the file that they share, and on the one for whose bytes they wait.
+const IN_THEIR_WAY: &[Row] = &[
+    (8, Call::Set(1, (0, 9), Some(Write)), Told::Done),
+    (7, Call::Set(1, (1, 1), Some(Write)), Told::Done),
+];
+
 /// They are counted, and are gone at once; who waited for them is granted.
-fn many_go(rt: &impl Abort, server: &mut LockServer) -> Result<(), Memory> {
-    tells(
-        rt,
-        server,
-        &[
-            (8, Call::Set(1, (0, 9), Some(Write)), Told::Done),
-            (7, Call::Set(1, (1, 1), Some(Write)), Told::Done),
-        ],
-    )?;
+const MANY_GO: &[Row] = &[
+    (7, Call::FlockWait(5000, 1, Write), Told::Waits),
+    (0, Call::Counts(1000, 2999), Told::Counts(4000, 2000, 2000)),
+    (0, Call::Counts(2999, 2999), Told::Counts(2, 1, 1)),
+    (0, Call::ForgetOwners(1000, 2998), Told::Done),
+    (0, Call::Grant, Told::Nothing),
+    (0, Call::Counts(0, u64::MAX), Told::Counts(4, 1, 2)),
+    (0, Call::ForgetOwners(2999, 2999), Told::Done),
+    (0, Call::Grant, Told::Granted(5000)),
+    (0, Call::Counts(0, u64::MAX), Told::Counts(2, 1, 0)),
+    (0, Call::HasLocks(2, u64::MAX), Told::Having(false)),
+];
+
+/// They come, and go.
+fn come_and_go(rt: &impl Abort, server: &mut LockServer) -> Result<(), Memory> {
+    tells(rt, server, IN_THEIR_WAY)?;
     many_come(rt, server)?;
-    tells(
-        rt,
-        server,
-        &[
-            (7, Call::FlockWait(5000, 1, Write), Told::Waits),
-            (0, Call::Counts(1000, 2999), counts(4000, 2000, 2000)),
-            (0, Call::Counts(2999, 2999), counts(2, 1, 1)),
-            (0, Call::ForgetOwners(1000, 2998), Told::Done),
-            (0, Call::Grant, Told::Nothing),
-            (0, Call::Counts(0, u64::MAX), counts(4, 1, 2)),
-            (0, Call::ForgetOwners(2999, 2999), Told::Done),
-            (0, Call::Grant, Told::Granted(5000)),
-            (0, Call::Counts(0, u64::MAX), counts(2, 1, 0)),
-            (0, Call::HasLocks(2, u64::MAX), Told::Having(false)),
-        ],
-    )
+    tells(rt, server, MANY_GO)
 }
 
 #[test]
 fn two_thousand_owners_go_often(rt: HostRuntime) -> Result<(), Fail> {
-    Ok(many_go(
+    Ok(come_and_go(
         &rt,
         &mut LockServer::new(rt.alloc(), stepwise(Policy::Held)),
     )?)

@@ -1,7 +1,7 @@
 //! The state of a server as bytes: what these are is derived by hand from the grammar in `lock_server/specs/Bytes.antt`.
 use super::calls::{Call, Row, Told, atomic, same, stepwise, tells};
 use lock_server::Mode::{Read, Write};
-use lock_server::{LockServer, Memory, Policy};
+use lock_server::{LockServer, Memory, Policy, Rules};
 use range_core::OFFMAX;
 use std::alloc::Global;
 use std::process::Abort;
@@ -9,7 +9,7 @@ use std::test::Fail;
 
 /// On file 7 owner 2 waits for a byte of owner 1, and owner 4 for the flock lock of owner 3; on file 8 owner 2 was given a lock since, so
 /// it is crossed; on file 9 the wait of owner 6 was granted, and that wasn't fetched. Three owners are noted.
-pub(super) const SITUATION: [Row; 13] = [
+pub(super) const SITUATION: &[Row] = &[
     (7, Call::Note(2, 12), Told::Done),
     (7, Call::Set(2, (20, 29), Some(Read)), Told::Done),
     (7, Call::Note(1, 11), Told::Done),
@@ -30,7 +30,7 @@ pub(super) const SITUATION: [Row; 13] = [
 ];
 
 /// The same by another way: in another order, in pieces, and with locks, waits, grants and notes that come and go.
-const OTHER_WAY: [Row; 22] = [
+const OTHER_WAY: &[Row] = &[
     (9, Call::Set(6, (0, 0), Some(Read)), Told::Done),
     (9, Call::Set(5, (0, 0), Some(Read)), Told::Done),
     (9, Call::Wait(60, 6, (0, 0), Write, false), Told::Waits),
@@ -56,7 +56,7 @@ const OTHER_WAY: [Row; 22] = [
 ];
 
 /// What it is as words.
-pub(super) const WORDS: [u64; 62] = [
+pub(super) const WORDS: &[u64] = &[
     1, 0, 0, // the version, the policy and the conversion
     3, // files
     7, 2, 1, 0, 9, 2, 2, 20, 29, 1, // file 7: two byte locks
@@ -108,30 +108,36 @@ fn exports(
 fn exports_situation(rt: &impl Abort, alloc: Global, rows: &[Row]) -> Result<(), Memory> {
     let mut server = LockServer::new(alloc, stepwise(Policy::Held));
     tells(rt, &mut server, rows)?;
-    exports(rt, alloc, &server, &WORDS)
+    exports(rt, alloc, &server, WORDS)
 }
 
 #[test]
 fn exports_all_that_there_is(rt: HostRuntime) -> Result<(), Fail> {
-    Ok(exports_situation(&rt, rt.alloc(), &SITUATION)?)
+    Ok(exports_situation(&rt, rt.alloc(), SITUATION)?)
 }
 
 #[test]
 fn exports_whatever_the_history_was(rt: HostRuntime) -> Result<(), Fail> {
-    Ok(exports_situation(&rt, rt.alloc(), &OTHER_WAY)?)
+    Ok(exports_situation(&rt, rt.alloc(), OTHER_WAY)?)
+}
+
+/// An empty server exports these words, and no file, grant, crossed owner or note.
+fn exports_empty(
+    rt: &impl Abort,
+    alloc: Global,
+    rules: Rules,
+    words: &[u64],
+) -> Result<(), Memory> {
+    let mut wanted = Vec::from_slice(alloc, words)?;
+    wanted.resize(7, 0)?;
+    exports(rt, alloc, &LockServer::new(alloc, rules), &wanted)
 }
 
 #[test]
 fn exports_an_empty_server(rt: HostRuntime) -> Result<(), Fail> {
-    for (rules, words) in [
-        (stepwise(Policy::Held), [1, 0, 0, 0, 0, 0, 0]),
-        (stepwise(Policy::Queue), [1, 1, 0, 0, 0, 0, 0]),
-        (atomic(Policy::Queue), [1, 1, 1, 0, 0, 0, 0]),
-    ] {
-        let server = LockServer::new(rt.alloc(), rules);
-        exports(&rt, rt.alloc(), &server, &words)?;
-    }
-    Ok(())
+    exports_empty(&rt, rt.alloc(), stepwise(Policy::Held), &[1, 0, 0])?;
+    exports_empty(&rt, rt.alloc(), stepwise(Policy::Queue), &[1, 1, 0])?;
+    Ok(exports_empty(&rt, rt.alloc(), atomic(Policy::Queue), &[1, 1, 1])?)
 }
 
 /// A buffer with one byte too few stays as it was, and one with more keeps what stands behind.
@@ -170,19 +176,30 @@ pub(super) fn fill(
     Ok(())
 }
 
+/// What two servers export that were filled in rising and in falling order; a wait less is told.
+fn export_alike(
+    rt: &impl Abort,
+    alloc: Global,
+    rising: &LockServer,
+    falling: &mut LockServer,
+) -> Result<(), Memory> {
+    let one = exported(rt, alloc, rising)?;
+    same(rt, one.len(), 8 * (7 + 2000 * 22));
+    let other = exported(rt, alloc, falling)?;
+    same(rt, other.as_slice(), one.as_slice());
+    falling.cancel(77);
+    let other = exported(rt, alloc, falling)?;
+    same(rt, other.as_slice() == one.as_slice(), false);
+    Ok(())
+}
+
 /// By the grammar a file takes 4 words beside what stands on it, a byte lock 4, a wait 7 and a note 3: with two locks, a wait and a note
 /// to each of 2,000 files that is 22 words for each, behind the first three and the counts of files, grants, crossed owners and notes.
 #[test]
 fn exports_thousands_in_any_order(rt: HostRuntime) -> Result<(), Fail> {
-    let mut rising = LockServer::new(rt.alloc(), stepwise(Policy::Queue));
-    fill(&rt, &mut rising, 0, 1)?;
-    let mut falling = LockServer::new(rt.alloc(), stepwise(Policy::Queue));
-    fill(&rt, &mut falling, 1999, 1999)?;
-    let one = exported(&rt, rt.alloc(), &rising)?;
-    same(&rt, one.len(), 8 * (7 + 2000 * 22));
-    let other = exported(&rt, rt.alloc(), &falling)?;
-    same(&rt, other.as_slice(), one.as_slice());
-    falling.cancel(77);
-    assert!(rt; exported(&rt, rt.alloc(), &falling)?.as_slice() != one.as_slice());
-    Ok(())
+    let rising = &mut LockServer::new(rt.alloc(), stepwise(Policy::Queue));
+    let falling = &mut LockServer::new(rt.alloc(), stepwise(Policy::Queue));
+    fill(&rt, rising, 0, 1)?;
+    fill(&rt, falling, 1999, 1999)?;
+    Ok(export_alike(&rt, rt.alloc(), rising, falling)?)
 }

@@ -14,7 +14,7 @@ use std::test::Fail;
 type Case<'a> = (Flaw, usize, &'a [u64]);
 
 /// Words that are no export, each with what is wrong first.
-const CASES: [Case<'static>; 38] = [
+const CASES: &[Case<'static>] = &[
     // the version, the policy, the conversion; a count of files, grants, crossed owners and notes that are not there; words that are too many
     (Flaw::Form, 0, &[2, 0, 0, 0, 0, 0, 0]),
     (Flaw::Form, 1, &[1, 2, 0, 0, 0, 0, 0]),
@@ -191,15 +191,24 @@ fn fault_of(alloc: Global, bytes: &[u8]) -> Result<Option<Fault>, Memory> {
     }
 }
 
+/// What is wrong with the words is this, at the word of this number.
+fn is_wrong(
+    rt: &impl Abort,
+    alloc: Global,
+    words: &[u64],
+    flaw: Flaw,
+    word: usize,
+) -> Result<(), Memory> {
+    let fault = fault_of(alloc, &bytes_of(alloc, words)?)?;
+    let offset = word.saturating_mul(8);
+    same(rt, fault, Some(Fault { flaw, offset }));
+    Ok(())
+}
+
 #[test]
 fn names_what_is_wrong(rt: HostRuntime) -> Result<(), Fail> {
-    for (flaw, word, words) in &CASES {
-        let bytes = bytes_of(rt.alloc(), words)?;
-        let wanted = Fault {
-            flaw: *flaw,
-            offset: word.saturating_mul(8),
-        };
-        same(&rt, fault_of(rt.alloc(), &bytes)?, Some(wanted));
+    for (flaw, word, words) in CASES {
+        is_wrong(&rt, rt.alloc(), words, *flaw, *word)?;
     }
     Ok(())
 }
@@ -213,7 +222,7 @@ fn imported(rt: &impl Abort, alloc: Global, bytes: &[u8]) -> Result<LockServer, 
 
 /// What is told of the situation from then on: a wait for owner 2 would close a cycle, the grant of owner 6 is fetched, and the waits are
 /// granted as the locks before them go.
-const AFTERWARDS: [Row; 9] = [
+const AFTERWARDS: &[Row] = &[
     (7, Call::Wait(91, 1, (20, 20), Write, true), Told::Deadlock),
     (9, Call::Grant, Told::Granted(60)),
     (9, Call::Grant, Told::Nothing),
@@ -239,24 +248,36 @@ fn export_alike(
 
 #[test]
 fn imports_all_that_there_is(rt: HostRuntime) -> Result<(), Fail> {
-    let bytes = bytes_of(rt.alloc(), &WORDS)?;
+    let bytes = bytes_of(rt.alloc(), WORDS)?;
     let mut server = imported(&rt, rt.alloc(), &bytes)?;
-    tells(&rt, &mut server, &AFTERWARDS)?;
+    tells(&rt, &mut server, AFTERWARDS)?;
     let mut other = LockServer::new(rt.alloc(), stepwise(Policy::Held));
-    tells(&rt, &mut other, &SITUATION)?;
-    tells(&rt, &mut other, &AFTERWARDS)?;
+    tells(&rt, &mut other, SITUATION)?;
+    tells(&rt, &mut other, AFTERWARDS)?;
     Ok(export_alike(&rt, rt.alloc(), &server, &other)?)
+}
+
+/// The flaw of the bytes, and whether they go up to it or farther.
+fn flaw_of(alloc: Global, bytes: &[u8]) -> Result<Option<(Flaw, bool)>, Memory> {
+    let Some(fault) = fault_of(alloc, bytes)? else {
+        return Ok(None);
+    };
+    Ok(Some((fault.flaw, fault.offset <= bytes.len())))
+}
+
+/// The bytes aren't in the form of an export, and that is told of a place in them or of their end.
+fn ends_early(rt: &impl Abort, alloc: Global, bytes: &[u8]) -> Result<(), Memory> {
+    let (length, flaw) = (bytes.len(), flaw_of(alloc, bytes)?);
+    same(rt, (length, flaw), (length, Some((Flaw::Form, true))));
+    Ok(())
 }
 
 /// Bytes that end too early tell that where they end; the last ones may be part of a word.
 #[test]
 fn refuses_each_beginning(rt: HostRuntime) -> Result<(), Fail> {
-    let bytes = bytes_of(rt.alloc(), &WORDS)?;
+    let bytes = bytes_of(rt.alloc(), WORDS)?;
     for length in 0..bytes.len() {
-        let fault = fault_of(rt.alloc(), &bytes[..length])?;
-        let flaw = fault.map(|fault| fault.flaw);
-        same(&rt, (length, flaw), (length, Some(Flaw::Form)));
-        assert!(rt; fault.is_some_and(|fault| fault.offset <= length));
+        ends_early(&rt, rt.alloc(), &bytes[..length])?;
     }
     Ok(())
 }
@@ -293,9 +314,9 @@ fn taken_flips(rt: &impl Abort, alloc: Global, bytes: &mut [u8]) -> Result<u64, 
 /// any number.
 #[test]
 fn refuses_or_exports_each_flip(rt: HostRuntime) -> Result<(), Fail> {
-    let mut bytes = bytes_of(rt.alloc(), &WORDS)?;
+    let mut bytes = bytes_of(rt.alloc(), WORDS)?;
     let taken = taken_flips(&rt, rt.alloc(), &mut bytes)?;
-    assert!(rt; taken >= 3 * 64);
+    same(&rt, (taken, taken >= 3 * 64), (taken, true));
     Ok(())
 }
 
@@ -328,6 +349,14 @@ fn imports_a_cycle_through_a_crossed_owner(rt: HostRuntime) -> Result<(), Fail> 
     Ok(())
 }
 
+/// Appends these words.
+fn push_words(words: &mut Vec<u64>, more: &[u64]) -> Result<(), Memory> {
+    for word in more {
+        words.push(*word)?;
+    }
+    Ok(())
+}
+
 /// A ring of owners, each of which waits for the next, and behind it a row of owners that wait for its first: `closed` says whether the
 /// last of the ring waits for the first.
 fn ring(alloc: Global, length: u64, closed: bool) -> Result<Vec<u64>, Memory> {
@@ -338,18 +367,12 @@ fn ring(alloc: Global, length: u64, closed: bool) -> Result<Vec<u64>, Memory> {
             Some(before) => (1, before),
             None => (u64::from(closed), length.saturating_sub(1)),
         };
-        for word in [i, 1, i, 0, 0, 2, 0, waits] {
-            words.push(word)?;
-        }
+        push_words(&mut words, &[i, 1, i, 0, 0, 2, 0, waits])?;
         if waits == 1 {
-            for word in [i, waiter, 0, 0, 0, 2, 1] {
-                words.push(word)?;
-            }
+            push_words(&mut words, &[i, waiter, 0, 0, 0, 2, 1])?;
         }
     }
-    for _ in 0..3 {
-        words.push(0)?;
-    }
+    push_words(&mut words, &[0, 0, 0])?;
     Ok(words)
 }
 
@@ -358,8 +381,8 @@ fn finds_a_cycle_of_thousands(rt: HostRuntime) -> Result<(), Fail> {
     let row = bytes_of(rt.alloc(), &ring(rt.alloc(), 3000, false)?)?;
     imported(&rt, rt.alloc(), &row)?;
     let ring = bytes_of(rt.alloc(), &ring(rt.alloc(), 3000, true)?)?;
-    let fault = fault_of(rt.alloc(), &ring)?;
-    same(&rt, fault.map(|fault| fault.flaw), Some(Flaw::Cycle));
+    let flaw = flaw_of(rt.alloc(), &ring)?;
+    same(&rt, flaw, Some((Flaw::Cycle, true)));
     Ok(())
 }
 

@@ -2,7 +2,7 @@
 mod listing;
 
 use super::calls::{Bytes, Call, Told};
-use lock_server::{Conversion, Counts, Memory, Mode, Policy, Rules};
+use lock_server::{Conversion, Memory, Mode, Policy, Rules};
 use std::alloc::Global;
 use std::collections::BTreeSet;
 
@@ -100,17 +100,33 @@ impl Model {
                 ticket,
                 ..claim_on(file, owner, FLOCK, mode)
             }),
-            Call::Flock(owner, None) | Call::FlockRelease(owner) => self.clear(file, owner, FLOCK),
+            Call::Flock(owner, None) => self.clear(file, owner, FLOCK),
+            other => self.go_on_with(file, other),
+        }
+    }
+
+    /// The same of a call that asks for no lock and removes none by its bytes.
+    fn go_on_with(&mut self, file: u64, call: Call) -> Result<Told, Memory> {
+        match call {
             Call::Cancel(ticket) => self.cancel(ticket),
             Call::Grant => Ok(self.next_grant()),
+            Call::HasLocks(first, last) => Ok(self.has_locks(first, last)),
+            Call::Counts(first, last) => Ok(self.counts(first, last)),
+            other => self.end(file, other),
+        }
+    }
+
+    /// The same of a call that tells nothing else than that it is done.
+    fn end(&mut self, file: u64, call: Call) -> Result<Told, Memory> {
+        match call {
+            Call::FlockRelease(owner) => self.clear(file, owner, FLOCK),
             Call::Flush(owner) => self.flush(file, owner),
             Call::Forget(owner) => self.forget(owner),
             Call::Note(owner, open_file) => self.note(file, owner, open_file),
             Call::Release(open_file, flock_owner) => self.release(file, open_file, flock_owner),
             Call::ForgetOwners(first, last) => self.forget_owners(first, last),
             Call::ForgetFile => Ok(self.forget_file(file)),
-            Call::HasLocks(first, last) => Ok(self.has_locks(first, last)),
-            Call::Counts(first, last) => Ok(self.counts(first, last)),
+            _ => Ok(Told::Done),
         }
     }
 
@@ -497,27 +513,23 @@ impl Model {
 
     /// How many ranges, flock locks and waits the owners have.
     fn counts(&self, first: u64, last: u64) -> Told {
-        let mut counts = Counts {
-            runs: 0,
-            flock_locks: 0,
-            waits: 0,
-        };
+        let (mut runs, mut flock_locks, mut waits) = (0usize, 0usize, 0usize);
         for lock in &self.locks {
             if lock.owner < first || last < lock.owner {
                 continue;
             }
             if lock.first == BYTES {
-                counts.flock_locks = counts.flock_locks.wrapping_add(1);
+                flock_locks = flock_locks.wrapping_add(1);
             } else if self.is_first(lock) {
-                counts.runs = counts.runs.wrapping_add(1);
+                runs = runs.wrapping_add(1);
             }
         }
         for wait in &self.waits {
             if first <= wait.owner && wait.owner <= last {
-                counts.waits = counts.waits.wrapping_add(1);
+                waits = waits.wrapping_add(1);
             }
         }
-        Told::Counts(counts)
+        Told::Counts(runs, flock_locks, waits)
     }
 
     /// The oldest grant, which is told once.

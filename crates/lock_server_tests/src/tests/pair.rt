@@ -5,10 +5,9 @@ use fd_table::{Access, Limits};
 use lock_book::{Held, Owner};
 use lock_manager::{Errno, Manager, Note, Reply, Request, Rules};
 use lock_server::{LockServer, Mode, Policy, Span};
-use range_core::OFFMAX;
+use range_core::{Memory, OFFMAX};
 use std::alloc::Global;
 use std::process::Abort;
-use std::test::Fail;
 use wait_core::{Family, Wait};
 
 /// How many processes there are. The first takes no lock, and so never waits.
@@ -123,6 +122,18 @@ fn held_reply(lock: (u64, lock_server::Mode, Bytes)) -> Reply {
     }
 }
 
+/// The reply that stands for what the server tells of a request, where it is answered.
+fn reply_of(told: Told) -> Option<Reply> {
+    match told {
+        Told::Done => Some(Reply::Ok),
+        Told::Blocked => Some(Reply::Err(Errno::EAGAIN)),
+        Told::Deadlock => Some(Reply::Err(Errno::EDEADLK)),
+        Told::Nothing => Some(Reply::Free),
+        Told::Lock(owner, mode, bytes) => Some(held_reply((owner, mode, bytes))),
+        _ => None,
+    }
+}
+
 /// The answer to the request with this ticket.
 fn answer_to(ticket: u64, reply: Reply) -> Note {
     Note::Answer {
@@ -132,27 +143,34 @@ fn answer_to(ticket: u64, reply: Reply) -> Note {
     }
 }
 
+/// The place among the kinds of answers of a refusal; none of another reply.
+fn kind_of_refusal(reply: Reply) -> Option<usize> {
+    match reply {
+        Reply::Err(Errno::EAGAIN) => Some(0),
+        Reply::Err(Errno::EDEADLK) => Some(2),
+        Reply::Err(Errno::EINTR) => Some(3),
+        _ => None,
+    }
+}
+
 /// The place among the kinds of answers of what an event of this process told; none where it is of no kind.
 fn kind_of(note: &Note, p: u8) -> Option<usize> {
-    match note {
+    match *note {
         Note::Waits { .. } => Some(1),
         Note::Answer {
             p: other,
             reply,
             ..
-        } => match reply {
-            Reply::Err(Errno::EAGAIN) => Some(0),
-            Reply::Err(Errno::EDEADLK) => Some(2),
-            Reply::Err(Errno::EINTR) => Some(3),
-            _ if *other != p => Some(4),
-            _ => None,
+        } => match kind_of_refusal(reply) {
+            None if other != p => Some(4),
+            kind => kind,
         },
     }
 }
 
 impl Pair {
     /// Process 1 lives, and there is nothing else.
-    pub(super) fn new(alloc: Global, policy: Policy, seen: Seen) -> Result<Pair, Fail> {
+    pub(super) fn new(alloc: Global, policy: Policy, seen: Seen) -> Result<Pair, Memory> {
         let rules = Rules {
             policy,
             limits: Limits::Small,
@@ -176,7 +194,7 @@ impl Pair {
     }
 
     /// The ticket with which the process waits.
-    pub(super) fn wait_of(&self, p: u8) -> Result<Option<u64>, Fail> {
+    pub(super) fn wait_of(&self, p: u8) -> Result<Option<u64>, Memory> {
         for wait in self.manager.waits()?.iter() {
             if wait.p == p {
                 return Ok(Some(wait.n.wrapping_mul(16).wrapping_add(u64::from(p))));
@@ -185,20 +203,22 @@ impl Pair {
         Ok(None)
     }
 
-    /// What the manager is to tell the process, where the server tells this of its request.
-    fn note(&self, p: u8, told: Told) -> Result<Note, Fail> {
-        let reply = match told {
-            Told::Done => Reply::Ok,
-            Told::Blocked => Reply::Err(Errno::EAGAIN),
-            Told::Deadlock => Reply::Err(Errno::EDEADLK),
-            Told::Nothing => Reply::Free,
-            Told::Lock(owner, mode, bytes) => held_reply((owner, mode, bytes)),
-            Told::Waits => return Ok(Note::Waits { p, n: self.number }),
-            Told::Taken | Told::Granted(_) | Told::Having(_) | Told::Counts(_) => return Err(
-                "no answer to a request".into(),
-            ),
-        };
-        Ok(answer_to(self.ticket(p), reply))
+    /// What the manager is to tell the process, where the server tells this of its request; none of what is no answer to a request.
+    fn note(&self, p: u8, told: Told) -> Option<Note> {
+        if told == Told::Waits {
+            return Some(Note::Waits { p, n: self.number });
+        }
+        Some(answer_to(self.ticket(p), reply_of(told)?))
+    }
+
+    /// Appends the answers to the waits that the server grants.
+    fn push_grants(&mut self, notes: &mut Vec<Note>) -> Result<(), Memory> {
+        for _ in 0..=PROCESSES {
+            if let Told::Granted(ticket) = serve(&mut self.server, 0, Call::Grant)? {
+                notes.push(answer_to(ticket, Reply::Ok))?;
+            }
+        }
+        Ok(())
     }
 
     /// The manager's notes on the request are what the server was seen to tell, and then the grants that it tells.
@@ -208,13 +228,9 @@ impl Pair {
         p: u8,
         request: Request,
         told: &[Note],
-    ) -> Result<(), Fail> {
+    ) -> Result<(), Memory> {
         let mut wanted = Vec::from_slice(self.alloc, told)?;
-        for _ in 0..=PROCESSES {
-            if let Told::Granted(ticket) = serve(&mut self.server, 0, Call::Grant)? {
-                wanted.push(answer_to(ticket, Reply::Ok))?;
-            }
-        }
+        self.push_grants(&mut wanted)?;
         assert!(rt; self.manager.able(p));
         let notes = self.manager.take(p, self.number, request)?;
         same(rt, notes.as_slice(), wanted.as_slice());
@@ -241,7 +257,7 @@ impl Pair {
         p: u8,
         request: Request,
         reply: Reply,
-    ) -> Result<(), Fail> {
+    ) -> Result<(), Memory> {
         let note = answer_to(self.ticket(p), reply);
         self.compare(rt, p, request, &[note])
     }
@@ -249,7 +265,7 @@ impl Pair {
     /// Whether the two may part at the call: under the queue policy the manager has a request wait behind those that conflict with it
     /// also where it is for what its owner has, and the server doesn't. An owner that is given more while it waits on the file may come
     /// to have what its wait is for, so that counts too.
-    fn may_part(&self, at: Descriptor, call: Call) -> Result<bool, Fail> {
+    fn may_part(&self, at: Descriptor, call: Call) -> Result<bool, Memory> {
         let Some((claim, may_wait)) = claim_of(at, call) else {
             return Ok(false);
         };
@@ -272,13 +288,13 @@ impl Pair {
         at: Descriptor,
         request: Request,
         call: Call,
-    ) -> Result<(), Fail> {
+    ) -> Result<(), Memory> {
         if self.policy == Policy::Queue && self.may_part(at, call)? {
             self.left_out = self.left_out.wrapping_add(1);
             return Ok(());
         }
         let told = serve(&mut self.server, u64::from(at.file), call)?;
-        let note = self.note(at.p, told)?;
+        let note = self.note(at.p, told).expect(rt, "no answer to a request");
         self.compare(rt, at.p, request, &[note])
     }
 
@@ -289,7 +305,7 @@ impl Pair {
         p: u8,
         fd: u32,
         file: u8,
-    ) -> Result<(), Fail> {
+    ) -> Result<(), Memory> {
         let access = Access::Rw;
         self.compare_reply(rt, p, Request::OpenFile { file, access }, Reply::Fd(fd))?;
         self.opened = self.opened.wrapping_add(1);
@@ -304,13 +320,14 @@ impl Pair {
     }
 
     /// The process sends a signal to the other one, which ends its wait.
-    pub(super) fn signal(&mut self, rt: &impl Abort, p: u8, target: u8) -> Result<(), Fail> {
+    pub(super) fn signal(&mut self, rt: &impl Abort, p: u8, target: u8) -> Result<(), Memory> {
         let request = Request::Signal { target };
         let caller = answer_to(self.ticket(p), Reply::Ok);
         let Some(ticket) = self.wait_of(target)? else {
             return self.compare(rt, p, request, &[caller]);
         };
-        assert!(rt; serve(&mut self.server, 0, Call::Cancel(ticket))? == Told::Done);
+        let told = serve(&mut self.server, 0, Call::Cancel(ticket))?;
+        same(rt, told == Told::Done, true);
         let interrupted = answer_to(ticket, Reply::Err(Errno::EINTR));
         self.compare(rt, p, request, &[caller, interrupted])
     }
@@ -326,7 +343,7 @@ impl Pair {
     }
 
     /// Whether a close of the descriptor frees locks of several owners, or both byte locks and a flock lock.
-    fn frees_several(&self, at: Descriptor, is_last: bool) -> Result<bool, Fail> {
+    fn frees_several(&self, at: Descriptor, is_last: bool) -> Result<bool, Memory> {
         let (process, description) = (Owner::Process(at.p), Owner::Description(at.description));
         let mut freed = None;
         for lock in self.manager.held()?.iter() {
@@ -342,6 +359,17 @@ impl Pair {
         Ok(false)
     }
 
+    /// What a close of the descriptor frees goes from the server.
+    fn free(&mut self, at: Descriptor, is_last: bool) -> Result<(), Memory> {
+        let (file, description) = (u64::from(at.file), at.description.wrapping_add(256));
+        serve(&mut self.server, file, Call::Flush(u64::from(at.p)))?;
+        if is_last {
+            serve(&mut self.server, file, Call::Flush(description))?;
+            serve(&mut self.server, file, Call::FlockRelease(description))?;
+        }
+        Ok(())
+    }
+
     /// The descriptor at this place is closed, and the file is opened again under the same. Not where the close would free several
     /// locks: the manager settles then when all are gone, and a server after each.
     pub(super) fn reopen(
@@ -349,17 +377,12 @@ impl Pair {
         rt: &impl Abort,
         at: Descriptor,
         place: usize,
-    ) -> Result<(), Fail> {
+    ) -> Result<(), Memory> {
         let is_last = self.is_last(at);
         if self.frees_several(at, is_last)? {
             return Ok(());
         }
-        let (file, description) = (u64::from(at.file), at.description.wrapping_add(256));
-        serve(&mut self.server, file, Call::Flush(u64::from(at.p)))?;
-        if is_last {
-            serve(&mut self.server, file, Call::Flush(description))?;
-            serve(&mut self.server, file, Call::FlockRelease(description))?;
-        }
+        self.free(at, is_last)?;
         let Descriptor { p, fd, .. } = at;
         self.compare_reply(rt, p, Request::CloseFd { fd }, Reply::Ok)?;
         if place < self.descriptors.len() {

@@ -3,13 +3,13 @@ ghost use Rattle.std.specs.Prelude.{◌≤◌};
 ghost use Rattle.range_core.specs.Ranges.{IsByteRange};
 ghost use Rattle.range_core.specs.declared.TheConstants.{OFFMAX};
 
-use super::calls::{ALL, Call, Told, serve, tells};
+use super::calls::{ALL, Bytes, Call, Told, same, serve, tells};
 use super::pair::{Descriptor, PROCESSES, Pair, number_of, owner_of};
 use super::rule::Rule;
 use lock_book::Held;
 use lock_manager::{FlockOp, LkCmd, Lock, Reply, Request};
 use lock_server::{Mode, Policy, Span};
-use range_core::{Kind, OFFMAX, Whence};
+use range_core::{Kind, Memory, OFFMAX, Whence};
 use std::process::Abort;
 use std::test::Fail;
 
@@ -76,6 +76,14 @@ impl Rule {
     }
 }
 
+/// The owner, the mode and the bytes of the lock that was told, if one was.
+fn lock_told(told: Told) -> Option<(u64, Mode, Bytes)> {
+    match told {
+        Told::Lock(owner, mode, bytes) => Some((owner, mode, bytes)),
+        _ => None,
+    }
+}
+
 /// The length that names the bytes from the first one on: 0 where they go to the largest offset.
 fn length_of(span: Span) -> u64
     requires { IsByteRange span }
@@ -89,7 +97,7 @@ fn length_of(span: Span) -> u64
 
 impl Pair {
     /// Each process but the first opens a description of each file, and has one of file 0 of process 1, which it shares with the others.
-    fn open_all(&mut self, rt: &impl Abort) -> Result<(), Fail> {
+    fn open_all(&mut self, rt: &impl Abort) -> Result<(), Memory> {
         self.open_file(rt, 1, 0, 0)?;
         for child in 2..=PROCESSES {
             self.compare_reply(rt, 1, Request::Fork { child }, Reply::Ok)?;
@@ -109,9 +117,9 @@ impl Pair {
     }
 
     /// One event by the rule, of one of the 21 descriptors; where its process waits, that is interrupted now and then.
-    fn event(&mut self, rt: &impl Abort, rule: &mut Rule) -> Result<(), Fail> {
+    fn event(&mut self, rt: &impl Abort, rule: &mut Rule) -> Result<(), Memory> {
         let chosen = rule.below(21) as usize;
-        let at = *self.descriptors.get(chosen).ok_or("no descriptor")?;
+        let at = *self.descriptors.get(chosen).expect(rt, "no descriptor");
         if self.wait_of(at.p)?.is_some() {
             return match rule.below(4) {
                 0 => self.signal(rt, 1, at.p),
@@ -127,7 +135,7 @@ impl Pair {
     }
 
     /// A lock command by the rule.
-    fn lock(&mut self, rt: &impl Abort, at: Descriptor, rule: &mut Rule) -> Result<(), Fail> {
+    fn lock(&mut self, rt: &impl Abort, at: Descriptor, rule: &mut Rule) -> Result<(), Memory> {
         let (fd, cmd) = (at.fd, COMMANDS[rule.below(10) as usize]);
         let asks = matches!(cmd, LkCmd::GetLk | LkCmd::OGetLk);
         let (kind, mode) = KINDS[rule.below(if asks { 5 } else { 8 }) as usize];
@@ -155,7 +163,7 @@ impl Pair {
     }
 
     /// A request by flock by the rule.
-    fn flock(&mut self, rt: &impl Abort, at: Descriptor, rule: &mut Rule) -> Result<(), Fail> {
+    fn flock(&mut self, rt: &impl Abort, at: Descriptor, rule: &mut Rule) -> Result<(), Memory> {
         let owner = at.description.wrapping_add(256);
         let (op, mode) = OPERATIONS[rule.below(4) as usize];
         let (fd, nb) = (at.fd, rule.below(4) == 0);
@@ -167,16 +175,16 @@ impl Pair {
     }
 
     /// Process 1 ends each wait that is left.
-    fn end_waits(&mut self, rt: &impl Abort) -> Result<(), Fail> {
+    fn end_waits(&mut self, rt: &impl Abort) -> Result<(), Memory> {
         for p in 2..=PROCESSES {
             self.signal(rt, 1, p)?;
         }
-        assert!(rt; self.manager.waits()?.is_empty());
+        same(rt, self.manager.waits()?.is_empty(), true);
         Ok(())
     }
 
     /// Both have the same locks. What the server has is taken away line by line of the manager's report, and then nothing is left.
-    fn compare_locks(&mut self, rt: &impl Abort) -> Result<(), Fail> {
+    fn compare_locks(&mut self, rt: &impl Abort) -> Result<(), Memory> {
         let held = self.manager.held()?;
         for lock in &held {
             if lock.whole {
@@ -187,26 +195,25 @@ impl Pair {
         }
         for file in 0..FILES {
             self.give_flocks(rt, &held, file, STRANGER, false)?;
-            let (file, writes) = (u64::from(file), Call::Flock(STRANGER, Some(Mode::Write)));
-            tells(
-                rt,
-                &mut self.server,
-                &[
-                    (file, Call::Get(STRANGER, ALL, Mode::Write), Told::Nothing),
-                    (file, writes, Told::Done),
-                ],
-            )?;
+            self.compare_rest(rt, u64::from(file))?;
         }
         Ok(())
     }
 
+    /// Nothing is left on the file.
+    fn compare_rest(&mut self, rt: &impl Abort, file: u64) -> Result<(), Memory> {
+        let get = Call::Get(STRANGER, ALL, Mode::Write);
+        let flock = Call::Flock(STRANGER, Some(Mode::Write));
+        let rows = [(file, get, Told::Nothing), (file, flock, Told::Done)];
+        tells(rt, &mut self.server, &rows)
+    }
+
     /// The first byte lock that the server tells of is in the report, and is taken away.
-    fn compare_bytes(&mut self, rt: &impl Abort, held: &[Held], file: u8) -> Result<(), Fail> {
+    fn compare_bytes(&mut self, rt: &impl Abort, held: &[Held], file: u8) -> Result<(), Memory> {
         let number = u64::from(file);
         let question = Call::Get(STRANGER, ALL, Mode::Write);
-        let Told::Lock(owner, mode, bytes) = serve(&mut self.server, number, question)? else {
-            return Err("no lock".into());
-        };
+        let told = serve(&mut self.server, number, question)?;
+        let (owner, mode, bytes) = lock_told(told).expect(rt, "no lock");
         let (first, last) = bytes;
         let is_there = held.contains(&Held {
             file,
@@ -215,7 +222,7 @@ impl Pair {
             mode,
             span: Span { first, last },
         });
-        assert!(rt; is_there);
+        same(rt, is_there, true);
         serve(&mut self.server, number, Call::Set(owner, bytes, None))?;
         Ok(())
     }
@@ -228,7 +235,7 @@ impl Pair {
         file: u8,
         except: u64,
         gives: bool,
-    ) -> Result<(), Fail> {
+    ) -> Result<(), Memory> {
         for lock in held {
             let owner = number_of(lock.owner);
             if lock.whole && lock.file == file && owner != except {
@@ -241,7 +248,7 @@ impl Pair {
     }
 
     /// The server has the flock lock of the report in its mode, which shows where those of the others are taken away.
-    fn compare_flock(&mut self, rt: &impl Abort, held: &[Held], lock: &Held) -> Result<(), Fail> {
+    fn compare_flock(&mut self, rt: &impl Abort, held: &[Held], lock: &Held) -> Result<(), Memory> {
         let (file, owner) = (u64::from(lock.file), number_of(lock.owner));
         let reads = match lock.mode {
             Mode::Read => Told::Done,
@@ -262,7 +269,7 @@ impl Pair {
 }
 
 /// A script of 96 turns; then the waits are ended, and both have the same locks.
-fn script(rt: &impl Abort, pair: &mut Pair, rule: &mut Rule) -> Result<(), Fail> {
+fn script(rt: &impl Abort, pair: &mut Pair, rule: &mut Rule) -> Result<(), Memory> {
     pair.open_all(rt)?;
     for _ in 0..96 {
         pair.event(rt, rule)?;
@@ -284,9 +291,9 @@ fn goes_as_the_manager_often(rt: HostRuntime) -> Result<(), Fail> {
             left_out = left_out.wrapping_add(pair.left_out);
         }
     }
-    assert!(rt; left_out > 100, "{left_out} requests left out");
+    same(&rt, (left_out, left_out > 100), (left_out, true));
     for count in seen {
-        assert!(rt; count > 1000);
+        same(&rt, (count, count > 1000), (count, true));
     }
     Ok(())
 }

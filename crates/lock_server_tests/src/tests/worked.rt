@@ -1,5 +1,5 @@
 //! Worked runs: calls of a server in turn, each with what it tells by the rules.
-use super::calls::{ALL, Call, Row, Told, atomic, serve, stepwise, tells};
+use super::calls::{ALL, Call, Row, Told, atomic, same, serve, stepwise, tells};
 use lock_server::Mode::{Read, Write};
 use lock_server::{LockServer, Memory, Policy};
 use std::process::Abort;
@@ -350,43 +350,63 @@ fn serve_again(rt: &impl Abort, server: &mut LockServer, file: u64, call: Call) 
     serve(server, file, call).expect(rt, "refused again")
 }
 
-/// Each call tells what its row says. Where a growth is refused, as by a test run with one allocation failing, all is as before and
-/// the next try goes through.
+/// What the call tells. Where a growth is refused, as by a test run with one allocation failing, all is as before and the next try goes
+/// through.
+fn follow_one(
+    rt: &impl Abort,
+    server: &mut LockServer,
+    file: u64,
+    call: Call,
+) -> Result<Told, Memory> {
+    let before = seen(rt, server, file)?;
+    if let Ok(told) = serve(server, file, call) {
+        return Ok(told);
+    }
+    same(rt, seen(rt, server, file)? == before, true);
+    Ok(serve_again(rt, server, file, call))
+}
+
+/// Each call tells what its row says.
 fn follow(rt: &impl Abort, server: &mut LockServer, rows: &[Row]) -> Result<(), Memory> {
     for (place, (file, call, wanted)) in rows.iter().enumerate() {
-        let before = seen(rt, server, *file)?;
-        let told = match serve(server, *file, *call) {
-            Ok(told) => told,
-            Err(_) => {
-                assert!(rt; seen(rt, server, *file)? == before, "row {place}");
-                serve_again(rt, server, *file, *call)
-            }
-        };
-        assert!(rt; told == *wanted, "row {place}");
+        let told = follow_one(rt, server, *file, *call)?;
+        same(rt, (place, told == *wanted), (place, true));
     }
     Ok(())
 }
 
+/// The runs by whose rules conversions go step by step.
+const BY_STEPS: &[(Policy, &[Row])] = &[
+    (Policy::Held, GRANTS_IN_ORDER),
+    (Policy::Held, FREES_AN_EARLIER_WAIT),
+    (Policy::Queue, FREES_AN_EARLIER_WAIT_OF_ITS_OWNER),
+    (Policy::Held, REFUSES_CYCLES),
+    (Policy::Held, CROSSES_AN_OWNER),
+    (Policy::Held, KEEPS_WAITS_AT_A_RELEASE),
+    (Policy::Held, CONVERTS_FLOCKS),
+    (Policy::Queue, QUEUES),
+    (Policy::Held, A_LAST_CLOSE_SETTLES_ONCE),
+    (Policy::Held, A_FORGOTTEN_OWNER_IS_NOT_RELEASED),
+    (Policy::Held, A_LAST_CLOSE_TAKES_WHO_CAME_THROUGH),
+    (Policy::Held, GROWS),
+];
+
+/// Those by whose rules they are atomic.
+const AT_ONCE: &[(Policy, &[Row])] = &[
+    (Policy::Held, CONVERTS_FLOCKS_AT_ONCE),
+    (Policy::Queue, CONVERTS_FLOCKS_AT_ONCE_IN_A_QUEUE),
+    (Policy::Held, GROWS),
+];
+
 /// Each call tells what its row says.
 #[test]
 fn worked_runs_come_out(rt: HostRuntime) -> Result<(), Fail> {
-    for (rules, rows) in [
-        (stepwise(Policy::Held), GRANTS_IN_ORDER),
-        (stepwise(Policy::Held), FREES_AN_EARLIER_WAIT),
-        (stepwise(Policy::Queue), FREES_AN_EARLIER_WAIT_OF_ITS_OWNER),
-        (stepwise(Policy::Held), REFUSES_CYCLES),
-        (stepwise(Policy::Held), CROSSES_AN_OWNER),
-        (stepwise(Policy::Held), KEEPS_WAITS_AT_A_RELEASE),
-        (stepwise(Policy::Held), CONVERTS_FLOCKS),
-        (atomic(Policy::Held), CONVERTS_FLOCKS_AT_ONCE),
-        (atomic(Policy::Queue), CONVERTS_FLOCKS_AT_ONCE_IN_A_QUEUE),
-        (stepwise(Policy::Queue), QUEUES),
-        (stepwise(Policy::Held), A_LAST_CLOSE_SETTLES_ONCE),
-        (stepwise(Policy::Held), A_FORGOTTEN_OWNER_IS_NOT_RELEASED),
-        (stepwise(Policy::Held), A_LAST_CLOSE_TAKES_WHO_CAME_THROUGH),
-        (stepwise(Policy::Held), GROWS),
-        (atomic(Policy::Held), GROWS),
-    ] {
+    for (policy, rows) in BY_STEPS {
+        let rules = stepwise(*policy);
+        follow(&rt, &mut LockServer::new(rt.alloc(), rules), rows)?;
+    }
+    for (policy, rows) in AT_ONCE {
+        let rules = atomic(*policy);
         follow(&rt, &mut LockServer::new(rt.alloc(), rules), rows)?;
     }
     Ok(())
