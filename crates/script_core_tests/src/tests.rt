@@ -47,7 +47,8 @@ fn check_parse(rt: &impl Abort, alloc: Global, script: &[u8], expected: Option<S
     if let Err(fault) = found
         && matches!(fault.cause, Cause::Memory(_))
     {
-        assert!(rt; (1..=3).contains(&fault.line), "{fault}");
+        let is_told_of_a_line = (1..=3).contains(&fault.line);
+        same(rt, (fault, is_told_of_a_line), (fault, true));
         found = parse(alloc, script).map(|read| read.arrivals.len());
     }
     let due = match expected {
@@ -57,38 +58,45 @@ fn check_parse(rt: &impl Abort, alloc: Global, script: &[u8], expected: Option<S
     same(rt, found, due);
 }
 
-/// A refused growth of `write_entry` leaves the old bytes and a front of the text, and written again behind these it is the whole one.
-#[test]
-fn write_without_memory(rt: HostRuntime) {
-    let lock = Lock {
+/// A set of the first hundred bytes.
+const SET: Request = Request::Lk {
+    fd: 0,
+    cmd: LkCmd::SetLk,
+    lock: Lock {
         kind: Kind::Write,
         whence: Whence::Set,
         start: 0,
         len: 100,
         pid: 5,
-    };
+    },
+};
+
+/// What is written of it twice.
+const SET_TWICE: &[u8] = b"1#2 setlk 0 w set 0 100 5\n1#2 setlk 0 w set 0 100 5\n";
+
+/// Writes the entry behind what stands there, which comes to these lines. A refused growth leaves the old bytes and a front of the text,
+/// and written again behind these it is the whole one.
+fn check_write(rt: &impl Abort, entry: &Entry, out: &mut Vec<u8>, lines: &[u8]) {
+    let old = out.len();
+    if write_entry(entry, out).is_err() {
+        same(rt, old <= out.len() && lines.starts_with(out), true);
+        out.truncate(old);
+        same(rt, write_entry(entry, out).is_ok(), true);
+    }
+    same(rt, out.as_slice(), lines);
+}
+
+#[test]
+fn write_without_memory(rt: HostRuntime) {
     let entry = Entry {
         p: 1,
         n: 2,
-        request: Request::Lk {
-            fd: 0,
-            cmd: LkCmd::SetLk,
-            lock,
-        },
+        request: SET,
         notes: Notes::of(Vec::new(rt.alloc())),
     };
     let mut out = Vec::new(rt.alloc());
-    let whole = b"1#2 setlk 0 w set 0 100 5\n1#2 setlk 0 w set 0 100 5\n";
-    let lines = [&whole[..26], whole];
-    for line in lines {
-        let old = out.len();
-        if write_entry(&entry, &mut out).is_err() {
-            assert!(rt; old <= out.len() && line.starts_with(&out));
-            out.truncate(old);
-            assert!(rt; write_entry(&entry, &mut out).is_ok());
-        }
-        same(&rt, out.as_slice(), line);
-    }
+    check_write(&rt, &entry, &mut out, &SET_TWICE[..26]);
+    check_write(&rt, &entry, &mut out, SET_TWICE);
 }
 
 const RULES: Rules = Rules {
@@ -103,15 +111,19 @@ proc 1 sent 3 taken 3 answered 3 live
 proc 2 sent 2 taken 2 answered 1 waiting
 ";
 
+/// A flock for writing that may wait.
+fn exclude(fd: u32) -> Request {
+    Request::Flock {
+        fd,
+        op: FlockOp::Ex,
+        nb: false,
+    }
+}
+
 /// A refused growth of `write_report` leaves the old bytes and a front of the text, and written again it is the whole one.
 #[test]
 fn write_report_without_memory(rt: HostRuntime) -> Result<(), Fail> {
     let access = Access::Rw;
-    let exclude = |fd| Request::Flock {
-        fd,
-        op: FlockOp::Ex,
-        nb: false,
-    };
     let arrivals = [
         (1, Request::OpenFile { file: 7, access }),
         (1, exclude(0)),
@@ -122,59 +134,76 @@ fn write_report_without_memory(rt: HostRuntime) -> Result<(), Fail> {
     let session = run_all(rt.alloc(), 2, RULES, &arrivals)?;
     let mut out = Vec::new(rt.alloc());
     if write_report(session.sequencer(), &[3, 2], &mut out).is_err() {
-        assert!(rt; REPORT.starts_with(&out));
+        same(&rt, REPORT.starts_with(&out), true);
         out.clear();
-        let second = write_report(session.sequencer(), &[3, 2], &mut out);
-        assert!(rt; second.is_ok(), "refused again");
+        again(&rt, write_report(session.sequencer(), &[3, 2], &mut out));
     }
     same(&rt, out.as_slice(), REPORT);
     Ok(())
 }
 
-/// Want of memory leaves what was read of a journal, and then the line is read as if it came first.
+/// The lines of a journal.
+const JOURNAL: &[&str] = &[
+    "policy queue",
+    "limits wide",
+    "1#1 open 0 rw | 1#1 fd 0",
+    "1#2 fork 2 | 1#2 ok",
+    "1#3 setlk 0 w set 0 1 | 1#3 ok",
+    "2#1 setlk 0 w set 1 1 | 2#1 ok",
+    "1#4 setlkw 0 w set 1 1 | 1#4 waits",
+    "2#2 setlkw 0 w set 0 1 | 2#2 EDEADLK",
+    "2#3 setlk 0 u set 1 1 | 2#3 ok | 1#4 ok",
+];
+
+/// Reads the line. Want of memory leaves what was read of a journal, and then the line is read as if it came first.
+fn check_line(rt: &impl Abort, reader: &mut JournalReader, line: &str) {
+    if let Err(fault) = reader.next(line.as_bytes()) {
+        let is_refused = matches!(fault, JournalFault::Memory(_));
+        same(rt, (line, is_refused), (line, true));
+        let second = reader.next(line.as_bytes());
+        same(rt, (line, second.is_ok()), (line, true));
+    }
+}
+
 #[test]
 fn read_journal_without_memory(rt: HostRuntime) {
     let Ok(mut reader) = JournalReader::new(rt.alloc()) else {
         return;
     };
-    for line in [
-        "policy queue",
-        "limits wide",
-        "1#1 open 0 rw | 1#1 fd 0",
-        "1#2 fork 2 | 1#2 ok",
-        "1#3 setlk 0 w set 0 1 | 1#3 ok",
-        "2#1 setlk 0 w set 1 1 | 2#1 ok",
-        "1#4 setlkw 0 w set 1 1 | 1#4 waits",
-        "2#2 setlkw 0 w set 0 1 | 2#2 EDEADLK",
-        "2#3 setlk 0 u set 1 1 | 2#3 ok | 1#4 ok",
-    ] {
-        if let Err(fault) = reader.next(line.as_bytes()) {
-            assert!(rt; matches!(fault, JournalFault::Memory(_)), "{fault}");
-            assert!(rt; reader.next(line.as_bytes()).is_ok(), "{line}");
-        }
+    for line in JOURNAL {
+        check_line(&rt, &mut reader, line);
     }
     same(&rt, reader.finish(), Ok(()));
 }
 
-/// Want of memory is told of a line with a note alone, where nothing else is wrong with what stands before it.
+/// Reads an entry of so many notes, of which there may be more, or one with this fault. Want of memory is told of a line with a note alone,
+/// where nothing else is wrong with what stands before it.
+fn check_entry(
+    rt: &impl Abort,
+    alloc: Global,
+    line: &[u8],
+    notes: usize,
+    due: Result<usize, Cause>,
+) {
+    let mut found = parse_entry(alloc, Limits::Small, line);
+    if matches!(found, Err(Cause::Memory(_))) {
+        same(rt, (line, notes > 0), (line, true));
+        found = parse_entry(alloc, Limits::Small, line);
+    }
+    let told = found.map(|entry| entry.notes.as_slice().len());
+    same(rt, told, due);
+}
+
 #[test]
 fn parse_entry_without_memory(rt: HostRuntime) {
-    for (line, notes, fault) in [
-        (b"1#1 exit".as_slice(), 0, None),
-        (b"1#2 signal 3 | 1#2 ok | 3#1 EINTR", 2, None),
-        (b"1#2 signal 3 | 1#2 ok | 3#1 Eintr", 2, Some(Cause::Word)),
-        (b"1#2 signal 3 | 1#2 yes | 3#1 EINTR", 0, Some(Cause::Word)),
-    ] {
-        let mut found = parse_entry(rt.alloc(), Limits::Small, line);
-        if matches!(found, Err(Cause::Memory(_))) {
-            assert!(rt; notes > 0, "{line:?}");
-            found = parse_entry(rt.alloc(), Limits::Small, line);
-        }
-        let told = found.map(|entry| entry.notes.as_slice().len());
-        let due = match fault {
-            None => Ok(notes),
-            Some(cause) => Err(cause),
-        };
-        same(&rt, told, due);
-    }
+    let alloc = rt.alloc();
+    let (two, no_error) = (
+        b"1#2 signal 3 | 1#2 ok | 3#1 EINTR",
+        b"1#2 signal 3 | 1#2 ok | 3#1 Eintr",
+    );
+    let no_reply = b"1#2 signal 3 | 1#2 yes | 3#1 EINTR";
+    check_entry(&rt, alloc, b"1#1 exit", 0, Ok(0));
+    check_entry(&rt, alloc, two, 2, Ok(2));
+    check_entry(&rt, alloc, no_error, 2, Err(Cause::Word));
+    check_entry(&rt, alloc, no_reply, 0, Err(Cause::Word));
 }

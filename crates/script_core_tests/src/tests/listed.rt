@@ -7,7 +7,7 @@ use super::worked::ROWS;
 use fd_table::{Access, Limits};
 use listed_machine::ListedMachine;
 use lock_manager::{Errno, FlockOp, LkCmd, Lock, Note, Reply, Request, Rules};
-use range_core::{Kind, Whence};
+use range_core::{Kind, Memory, Whence};
 use session_core::{Entry, Sequencer};
 use std::alloc::Global;
 use std::process::Abort;
@@ -16,7 +16,7 @@ use wait_core::Policy;
 use wait_core_tests::rule::Rule;
 
 /// What came up in the entries that were compared.
-#[derive(Clone, Copy, Debug, Default)]
+#[derive(Clone, Copy, Default)]
 struct Seen {
     entries: u64,
     waits: u64,
@@ -123,13 +123,19 @@ impl Both {
         let mut told = Vec::new(self.alloc);
         self.sequencer.deliver(p, request, &mut told)?;
         for entry in &told {
-            let Entry { p, n, request, .. } = *entry;
-            assert!(rt; 1 <= p && p <= 64 && self.listed.is_able(p), "{p}#{n}");
-            let notes = self.listed.take(p, n, request)?;
-            let told = (p, n, request, notes.as_slice());
-            same(rt, told, (p, n, request, entry.notes.as_slice()));
+            self.take(rt, entry)?;
             seen.count(entry);
         }
+        Ok(())
+    }
+
+    /// The plain one tells the same of the entry.
+    fn take(&mut self, rt: &impl Abort, entry: &Entry) -> Result<(), Memory> {
+        let Entry { p, n, request, .. } = *entry;
+        assert!(rt; 1 <= p && p <= 64 && self.listed.is_able(p), "{p}#{n}");
+        let notes = self.listed.take(p, n, request)?;
+        let told = (p, n, request, notes.as_slice());
+        same(rt, told, (p, n, request, entry.notes.as_slice()));
         Ok(())
     }
 }
@@ -216,19 +222,22 @@ fn send_scripts(rt: &impl Abort, alloc: Global, has_sections: bool) -> Result<Se
     Ok(seen)
 }
 
+/// More than so many came up.
+fn has_more(rt: &impl Abort, name: &str, count: u64, least: u64) {
+    same(rt, (name, count, count > least), (name, count, true));
+}
+
 /// Both tell the same on 500 scripts of 40 requests each behind the opening, in which waits begin, are granted, are interrupted and would
 /// close cycles, and conversions by flock let others pass.
 #[test]
 fn tells_the_same_notes_often(rt: HostRuntime) -> Result<(), Fail> {
     let seen = send_scripts(&rt, rt.alloc(), false)?;
-    assert!(rt;
-        seen.entries > 20000 && seen.waits > 1000 && seen.grants > 250,
-        "{seen:?}"
-    );
-    assert!(rt;
-        seen.deadlocks > 100 && seen.interrupted > 200 && seen.passed > 50,
-        "{seen:?}"
-    );
+    has_more(&rt, "entries", seen.entries, 20000);
+    has_more(&rt, "waits", seen.waits, 1000);
+    has_more(&rt, "grants", seen.grants, 250);
+    has_more(&rt, "deadlocks", seen.deadlocks, 100);
+    has_more(&rt, "interrupted", seen.interrupted, 200);
+    has_more(&rt, "passed", seen.passed, 50);
     Ok(())
 }
 
@@ -236,10 +245,9 @@ fn tells_the_same_notes_often(rt: HostRuntime) -> Result<(), Fail> {
 #[test]
 fn tells_the_same_of_sections_often(rt: HostRuntime) -> Result<(), Fail> {
     let seen = send_scripts(&rt, rt.alloc(), true)?;
-    assert!(rt;
-        seen.visits > 1000 && seen.ended > 250 && seen.stayed > 250,
-        "{seen:?}"
-    );
+    has_more(&rt, "visits", seen.visits, 1000);
+    has_more(&rt, "ended", seen.ended, 250);
+    has_more(&rt, "stayed", seen.stayed, 250);
     Ok(())
 }
 

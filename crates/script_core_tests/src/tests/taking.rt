@@ -91,7 +91,7 @@ fn assert_stands(
     let after = standing_of(rt, session);
     same(rt, after.held.as_slice(), before.held.as_slice());
     same(rt, after.waits.as_slice(), before.waits.as_slice());
-    assert!(rt; after.states == before.states);
+    same(rt, after.states, before.states);
     same(rt, all_lines(rt, alloc, session).as_slice(), lines);
 }
 
@@ -120,10 +120,11 @@ fn take_all(
         let Some(place) = take_next(rt, alloc, session, lines.as_slice()) else {
             return;
         };
-        assert!(rt; place == session.journal().len() as u64, "{}", row.name);
-        let last = session.journal().len().saturating_sub(1);
-        push_line(rt, session, last, lines);
-        assert!(rt; row.entries.starts_with(lines.as_slice()), "{}", row.name);
+        let entries = session.journal().len();
+        same(rt, (row.name, place), (row.name, entries as u64));
+        push_line(rt, session, entries.saturating_sub(1), lines);
+        let are_due = row.entries.starts_with(lines.as_slice());
+        same(rt, (row.name, are_due), (row.name, true));
     }
 }
 
@@ -141,7 +142,7 @@ fn arrive_once(
 /// The same, which must succeed where it is made again.
 fn arrive(rt: &impl Abort, session: &mut Session, p: u8, request: Request) {
     if arrive_once(rt, session, p, request).is_err() {
-        assert!(rt; arrive_once(rt, session, p, request).is_ok());
+        same(rt, arrive_once(rt, session, p, request).is_ok(), true);
     }
 }
 
@@ -160,11 +161,8 @@ pub(super) fn script_of(rt: &impl Abort, alloc: Global, row: &Row) -> Script {
     match parse(alloc, row.script) {
         Ok(script) => script,
         Err(fault) => {
-            assert!(rt;
-                matches!(fault.cause, Cause::Memory(_)),
-                "{}: {fault}",
-                row.name
-            );
+            let is_refused = matches!(fault.cause, Cause::Memory(_));
+            same(rt, (row.name, fault, is_refused), (row.name, fault, true));
             parse(alloc, row.script).expect(rt, "refused again")
         }
     }
@@ -186,7 +184,7 @@ fn run(rt: &impl Abort, alloc: Global, row: &Row) {
             &mut lines,
         );
     }
-    assert!(rt; lines.as_slice() == row.entries, "{}", row.name);
+    same(rt, (row.name, lines.as_slice()), (row.name, row.entries));
 }
 
 #[test]
