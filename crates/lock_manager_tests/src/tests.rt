@@ -11,6 +11,7 @@ use lock_manager::{
 };
 use range_core::{Kind, Memory, Mode, OFFMAX, Span, Whence};
 use std::alloc::Global;
+use std::fmt::Debug;
 use std::process::Abort;
 use std::test::Fail;
 use wait_core::{Policy, Wait};
@@ -199,9 +200,14 @@ struct Run {
     steps: &'static [Step],
 }
 
+/// The two are the same.
+fn same<T: PartialEq + Debug + Drop>(rt: &impl Abort, left: T, right: T) {
+    assert_eq!(rt; left, right);
+}
+
 /// What a call comes to that is made again after a growth was refused: it must succeed, for at most one is refused in a run.
 fn again<T>(rt: &impl Abort, second: Result<T, Memory>) -> Result<T, Memory> {
-    assert!(rt; second.is_ok(), "refused again");
+    same(rt, ("made again", second.is_ok()), ("made again", true));
     second
 }
 
@@ -256,10 +262,35 @@ fn answer(
     if let Ok(notes) = answer_once(rt, manager, p, n, request) {
         return Ok(notes);
     }
-    assert!(rt; all_held(rt, manager)?.as_slice() == held.as_slice());
-    assert!(rt; all_waits(rt, manager)?.as_slice() == waits.as_slice());
-    assert!(rt; all_states(manager) == states);
+    same(rt, all_held(rt, manager)?.as_slice(), held.as_slice());
+    same(rt, all_waits(rt, manager)?.as_slice(), waits.as_slice());
+    same(rt, all_states(manager), states);
     again(rt, answer_once(rt, manager, p, n, request))
+}
+
+/// The request is answered so, and nothing else is told.
+fn is_answered(
+    rt: &impl Abort,
+    manager: &mut Manager,
+    p: u8,
+    n: u64,
+    (request, reply): (Request, Reply),
+) -> Result<bool, Memory> {
+    let notes = answer(rt, manager, p, n, request)?;
+    let due = [Note::Answer { p, n, reply }];
+    Ok(notes.as_slice() == due.as_slice())
+}
+
+/// The request leads to just these notes.
+fn leads_to(
+    rt: &impl Abort,
+    manager: &mut Manager,
+    p: u8,
+    n: u64,
+    (request, wanted): (Request, &[Said]),
+) -> Result<bool, Memory> {
+    let notes = answer(rt, manager, p, n, request)?;
+    Ok(told(notes.as_slice(), wanted))
 }
 
 /// Just this was told.
@@ -319,6 +350,34 @@ fn first_in_the_way(
     }
 }
 
+/// Just these wait.
+fn is_queue(rt: &impl Abort, manager: &Manager, wanted: &[Wait]) -> Result<bool, Memory> {
+    let waits = all_waits(rt, manager)?;
+    Ok(waits.as_slice() == wanted)
+}
+
+/// This is the first in the way of the lock.
+fn finds(
+    rt: &impl Abort,
+    manager: &Manager,
+    wait: &Wait,
+    wanted: Option<InTheWay>,
+) -> Result<bool, Memory> {
+    let first = first_in_the_way(rt, manager, wait)?;
+    Ok(first == wanted)
+}
+
+/// The manager shows this without a growth.
+fn shows(manager: &Manager, step: Step) -> bool {
+    match step {
+        Step::Stands(p, state) => manager.state_of(p) == state,
+        Step::Unable(p) => !manager.able(p),
+        Step::Wants(p, n, ask, wait) => manager.wanted(p, n, ask.request()) == wait,
+        Step::Refers(p, fd, look) => manager.look(p, fd) == look,
+        _ => false,
+    }
+}
+
 /// The step is made, or looked at: whether it came out so.
 fn comes_out(
     rt: &impl Abort,
@@ -326,24 +385,16 @@ fn comes_out(
     number: u64,
     step: Step,
 ) -> Result<bool, Memory> {
-    Ok(match step {
+    match step {
         Step::Replies(p, ask, reply) => {
-            let notes = answer(rt, manager, p, number, ask.request())?;
-            let n = number;
-            notes.as_slice() == [Note::Answer { p, n, reply }].as_slice()
+            is_answered(rt, manager, p, number, (ask.request(), reply))
         }
-        Step::Tells(p, n, ask, wanted) => {
-            let notes = answer(rt, manager, p, n, ask.request())?;
-            told(notes.as_slice(), wanted)
-        }
-        Step::Holds(locks) => holds(rt, manager, locks)?,
-        Step::Queue(waits) => all_waits(rt, manager)?.as_slice() == waits,
-        Step::Stands(p, state) => manager.state_of(p) == state,
-        Step::Unable(p) => !manager.able(p),
-        Step::Wants(p, n, ask, wait) => manager.wanted(p, n, ask.request()) == wait,
-        Step::Finds(wait, first) => first_in_the_way(rt, manager, &wait)? == first,
-        Step::Refers(p, fd, look) => manager.look(p, fd) == look,
-    })
+        Step::Tells(p, n, ask, wanted) => leads_to(rt, manager, p, n, (ask.request(), wanted)),
+        Step::Holds(locks) => holds(rt, manager, locks),
+        Step::Queue(waits) => is_queue(rt, manager, waits),
+        Step::Finds(wait, first) => finds(rt, manager, &wait, first),
+        other => Ok(shows(manager, other)),
+    }
 }
 
 fn opening(rt: &impl Abort, alloc: Global) -> Result<Manager, Memory> {
@@ -353,14 +404,19 @@ fn opening(rt: &impl Abort, alloc: Global) -> Result<Manager, Memory> {
     }
 }
 
+/// The run comes out as its steps say.
+fn assert_comes_out(rt: &impl Abort, manager: &mut Manager, run: &Run) -> Result<(), Memory> {
+    for (number, step) in run.steps.iter().enumerate() {
+        let came_out = comes_out(rt, manager, number as u64, *step)?;
+        same(rt, (run.name, number, came_out), (run.name, number, true));
+    }
+    Ok(())
+}
+
 /// Each run, from the opening on, comes out as its steps say.
 fn assert_all_come_out(rt: &impl Abort, alloc: Global, runs: &[Run]) -> Result<(), Memory> {
     for run in runs {
-        let mut manager = opening(rt, alloc)?;
-        for (number, step) in run.steps.iter().enumerate() {
-            let came = comes_out(rt, &mut manager, number as u64, *step)?;
-            assert!(rt; came, "{}: step {number}", run.name);
-        }
+        assert_comes_out(rt, &mut opening(rt, alloc)?, run)?;
     }
     Ok(())
 }
