@@ -150,7 +150,7 @@ const ROWS: &[Row] = &[
 /// Process 1 has a lock, and process 2 asks for it, which isn't served.
 fn lock_and_look(rt: &impl Abort, first: &mut Caller, second: &mut Caller, server: &mut Server) {
     advance(rt, first, second, server, LOCKED);
-    assert!(rt; second.post(LOOK).is_ok());
+    same(rt, second.post(LOOK).is_ok(), true);
 }
 
 /// The client collects just these answers, one after another.
@@ -187,7 +187,7 @@ fn act_at_the_gate<R: Threads + Wait + Abort + Sync>(
     let (served, acted) = serve_while_it_acts(rt, client, server, &gate)?;
     same(rt, served, Served::Took(4));
     same(rt, gate.calls.seen(), (1, 4));
-    assert!(rt; gate.seen.load(Ordering::SeqCst));
+    same(rt, gate.seen.load(Ordering::SeqCst), true);
     let (mut client, came) = acted.expect(rt, "the desk stood at its gate");
     same(rt, came, (Ok(row.posted), row.meanwhile));
     same(rt, client.collect(), row.next);

@@ -81,7 +81,7 @@ fn open_again(
     match open_hub(alloc, processes, depth, rules) {
         Err(_) => {
             let second = open_hub(alloc, processes, depth, rules);
-            assert!(rt; second.is_ok(), "refused again");
+            same(rt, ("made again", second.is_ok()), ("made again", true));
             second
         }
         first => first,
@@ -120,6 +120,12 @@ pub fn with_hub(
     (Caller { hub, client: first }, last, Server { hub, desk })
 }
 
+/// The desk takes a request.
+fn takes_one(rt: &impl Abort, server: &mut Server) {
+    let has_taken = matches!(server.serve(rt, &Open), Served::Took(_));
+    same(rt, has_taken, true);
+}
+
 /// Each request is posted, by the first process or another one, and served.
 pub fn advance(
     rt: &impl Abort,
@@ -134,8 +140,8 @@ pub fn advance(
         } else {
             last.post(*request)
         };
-        assert!(rt; posted.is_ok());
-        assert!(rt; matches!(server.serve(rt, &Open), Served::Took(_)));
+        same(rt, posted.is_ok(), true);
+        takes_one(rt, server);
     }
 }
 
@@ -148,21 +154,22 @@ const DEPTH: u8 = 32;
 /// The client posts a request into each of its cells.
 fn fill(rt: &impl Abort, caller: &mut Caller) {
     for _ in 0..DEPTH {
-        assert!(rt; caller.post(SEEK).is_ok());
+        same(rt, caller.post(SEEK).is_ok(), true);
     }
 }
 
 /// The desk takes all that both posted.
 fn serve_both(rt: &impl Abort, server: &mut Server) {
     for _ in 0..2 * DEPTH {
-        assert!(rt; matches!(server.serve(rt, &Open), Served::Took(_)));
+        takes_one(rt, server);
     }
 }
 
 /// The client collects the answer to each of them.
 fn empty(rt: &impl Abort, caller: &mut Caller) {
     for _ in 0..DEPTH {
-        assert!(rt; matches!(caller.collect(), Some((_, Reply::Ok, _))));
+        let is_done = matches!(caller.collect(), Some((_, Reply::Ok, _)));
+        same(rt, is_done, true);
     }
 }
 
@@ -203,7 +210,7 @@ fn serve_unseen(rt: &impl Abort, hub: &Hub, desk: &mut Desk, client: &mut Client
     match desk.serve_one(hub, &Open) {
         Ok(served) => served,
         Err(_) => {
-            assert!(rt; client.collect(hub).is_none());
+            same(rt, client.collect(hub).is_none(), true);
             again(rt, desk.serve_one(hub, &Open))
         }
     }

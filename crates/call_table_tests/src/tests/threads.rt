@@ -123,9 +123,11 @@ fn is_told(session: &Session, p: u8, answer: &Answer) -> bool {
 /// Looks that these are the journal's answers to the process, and that the last request was granted.
 fn look_at_answers(rt: &impl Abort, session: &Session, p: u8, answers: &[Answer]) {
     same(rt, answers.len() as u64, session.answered(p));
-    assert!(rt; matches!(answers.last(), Some((_, Reply::Ok, _))));
+    let is_granted = matches!(answers.last(), Some((_, Reply::Ok, _)));
+    same(rt, (p, is_granted), (p, true));
     for answer in answers {
-        assert!(rt; is_told(session, p, answer));
+        let told = (p, *answer, is_told(session, p, answer));
+        same(rt, told, (p, *answer, true));
     }
 }
 

@@ -39,7 +39,7 @@ fn the_worked_table_answers_so(rt: HostRuntime) -> Result<(), Fail> {
     same(&rt, first.post(&hub, EXIT), Err(Busy { request: EXIT }));
     desk.close(&hub);
     same(&rt, serve(&rt, &hub, &mut desk), Served::Closed);
-    assert!(rt; first.closed(&hub));
+    same(&rt, first.closed(&hub), true);
     look_at_session(&rt, &desk.into_session());
     Ok(())
 }
@@ -58,8 +58,8 @@ fn look_at_session(rt: &impl Abort, session: &Session) {
     };
     let journal = session.journal();
     assert!(rt; journal.len() == 2);
-    assert!(rt; took(&journal[0], 1, OPEN, &[opened]));
-    assert!(rt; took(&journal[1], 2, EXIT, &[]));
+    same(rt, took(&journal[0], 1, OPEN, &[opened]), true);
+    same(rt, took(&journal[1], 2, EXIT, &[]), true);
     same(rt, session.taken(1), 2);
     same(rt, session.answered(1), 1);
     same(rt, session.taken(2), 0);
