@@ -2,7 +2,8 @@
 use explore_run::findings_of;
 use replay_core::{Detail, FromReader, ToWriter};
 use shown_run::{RunFinding, RunOutcome, replay_judged};
-use std::alloc::Global;
+use std::alloc::{AllocError, Global};
+use std::fmt::Debug;
 use std::process::Abort;
 use std::test::Fail;
 
@@ -66,6 +67,11 @@ const APART: &[u8] = b"1 fork 2
 1 enter 3
 ";
 
+/// The two are the same.
+fn same<T: PartialEq + Debug + Drop>(rt: &impl Abort, left: T, right: T) {
+    assert_eq!(rt; left, right);
+}
+
 /// What comes of the run of the script where what this list names is to fail; `None` where it names nothing.
 fn outcome_of(alloc: Global, script: &[u8], list: &str) -> Result<Option<RunOutcome>, Fail> {
     let Some(fail_on) = findings_of::<RunFinding>(alloc, list)? else {
@@ -76,147 +82,113 @@ fn outcome_of(alloc: Global, script: &[u8], list: &str) -> Result<Option<RunOutc
     Ok(Some(replay_judged(alloc, Detail::Plain, &fail_on, &mut source, &mut sink)?))
 }
 
+/// A run of the script, where what this list names is to fail, comes to this.
+fn comes_to(
+    rt: &impl Abort,
+    alloc: Global,
+    script: &[u8],
+    list: &str,
+    due: Option<RunOutcome>,
+) -> Result<(), Fail> {
+    same(rt, (list, outcome_of(alloc, script, list)?), (list, due));
+    Ok(())
+}
+
+/// Each of the lists names something that the run of the script shows.
+fn show(rt: &impl Abort, alloc: Global, script: &[u8], lists: &[&str]) -> Result<(), Fail> {
+    for list in lists {
+        comes_to(rt, alloc, script, list, Some(RunOutcome::Failed))?;
+    }
+    Ok(())
+}
+
+/// None of them names such a thing.
+fn show_not(rt: &impl Abort, alloc: Global, script: &[u8], lists: &[&str]) -> Result<(), Fail> {
+    for list in lists {
+        comes_to(rt, alloc, script, list, Some(RunOutcome::Passed))?;
+    }
+    Ok(())
+}
+
 #[test]
 fn a_cycle(rt: HostRuntime) -> Result<(), Fail> {
-    let alloc = rt.alloc();
-    assert_eq!(rt;
-        outcome_of(alloc, CYCLE, "deadlock")?,
-        Some(RunOutcome::Failed)
+    let (shown, others) = (
+        ["deadlock", "busy,deadlock"],
+        ["stuck,dropped,lost,busy,interrupted,killed,unborn,badfd"],
     );
-    assert_eq!(rt;
-        outcome_of(alloc, CYCLE, "busy,deadlock")?,
-        Some(RunOutcome::Failed)
-    );
-    assert_eq!(rt;
-        outcome_of(
-            alloc,
-            CYCLE,
-            "stuck,dropped,lost,busy,interrupted,killed,unborn,badfd"
-        )?,
-        Some(RunOutcome::Passed)
-    );
-    Ok(())
+    show(&rt, rt.alloc(), CYCLE, &shown)?;
+    show_not(&rt, rt.alloc(), CYCLE, &others)
 }
 
 #[test]
 fn losses(rt: HostRuntime) -> Result<(), Fail> {
-    let alloc = rt.alloc();
-    assert_eq!(rt;
-        outcome_of(alloc, LOSSES, "dropped")?,
-        Some(RunOutcome::Failed)
+    let (shown, others) = (
+        ["dropped", "stuck", "unborn"],
+        ["deadlock,lost,busy,interrupted,killed,badfd"],
     );
-    assert_eq!(rt;
-        outcome_of(alloc, LOSSES, "stuck")?,
-        Some(RunOutcome::Failed)
-    );
-    assert_eq!(rt;
-        outcome_of(alloc, LOSSES, "unborn")?,
-        Some(RunOutcome::Failed)
-    );
-    assert_eq!(rt;
-        outcome_of(alloc, LOSSES, "deadlock,lost,busy,interrupted,killed,badfd")?,
-        Some(RunOutcome::Passed)
-    );
-    Ok(())
+    show(&rt, rt.alloc(), LOSSES, &shown)?;
+    show_not(&rt, rt.alloc(), LOSSES, &others)
 }
 
 #[test]
 fn ends(rt: HostRuntime) -> Result<(), Fail> {
-    let alloc = rt.alloc();
-    assert_eq!(rt; outcome_of(alloc, ENDS, "lost")?, Some(RunOutcome::Failed));
-    assert_eq!(rt; outcome_of(alloc, ENDS, "busy")?, Some(RunOutcome::Failed));
-    assert_eq!(rt;
-        outcome_of(alloc, ENDS, "interrupted")?,
-        Some(RunOutcome::Failed)
+    let (shown, others) = (
+        ["lost", "busy", "interrupted", "killed"],
+        ["deadlock,stuck,dropped,unborn,badfd"],
     );
-    assert_eq!(rt;
-        outcome_of(alloc, ENDS, "killed")?,
-        Some(RunOutcome::Failed)
-    );
-    assert_eq!(rt;
-        outcome_of(alloc, ENDS, "deadlock,stuck,dropped,unborn,badfd")?,
-        Some(RunOutcome::Passed)
-    );
-    Ok(())
+    show(&rt, rt.alloc(), ENDS, &shown)?;
+    show_not(&rt, rt.alloc(), ENDS, &others)
 }
 
 #[test]
 fn a_bad_descriptor(rt: HostRuntime) -> Result<(), Fail> {
-    let alloc = rt.alloc();
-    assert_eq!(rt;
-        outcome_of(alloc, CLOSED, "badfd")?,
-        Some(RunOutcome::Failed)
-    );
-    assert_eq!(rt;
-        outcome_of(
-            alloc,
-            CLOSED,
-            "deadlock,stuck,dropped,lost,busy,interrupted,killed,unborn"
-        )?,
-        Some(RunOutcome::Passed)
-    );
-    Ok(())
+    let others = ["deadlock,stuck,dropped,lost,busy,interrupted,killed,unborn"];
+    show(&rt, rt.alloc(), CLOSED, &["badfd"])?;
+    show_not(&rt, rt.alloc(), CLOSED, &others)
 }
 
 #[test]
 fn sections(rt: HostRuntime) -> Result<(), Fail> {
-    let alloc = rt.alloc();
-    assert_eq!(rt;
-        outcome_of(alloc, TOGETHER, "together")?,
-        Some(RunOutcome::Failed)
-    );
     let others = "deadlock,stuck,dropped,lost,busy,interrupted,killed,unborn,badfd";
-    assert_eq!(rt;
-        outcome_of(alloc, TOGETHER, others)?,
-        Some(RunOutcome::Passed)
-    );
-    for findings in [others, "together"] {
-        assert_eq!(rt;
-            outcome_of(alloc, APART, findings)?,
-            Some(RunOutcome::Passed)
-        );
-    }
-    Ok(())
+    show(&rt, rt.alloc(), TOGETHER, &["together"])?;
+    show_not(&rt, rt.alloc(), TOGETHER, &[others])?;
+    show_not(&rt, rt.alloc(), APART, &[others, "together"])
 }
+
+/// Lists that name nothing.
+const NO_LISTS: &[&str] = &[
+    "",
+    "badfd,",
+    ",busy",
+    "badfds",
+    "EBADF",
+    "busy busy",
+    "Busy",
+];
 
 #[test]
 fn lists(rt: HostRuntime) -> Result<(), Fail> {
-    let alloc = rt.alloc();
-    for list in [
-        "",
-        "badfd,",
-        ",busy",
-        "badfds",
-        "EBADF",
-        "busy busy",
-        "Busy",
-    ] {
-        assert_eq!(rt; outcome_of(alloc, CLOSED, list)?, None);
+    for list in NO_LISTS {
+        comes_to(&rt, rt.alloc(), CLOSED, list, None)?;
     }
-    assert_eq!(rt;
-        outcome_of(alloc, CLOSED, "busy,busy,badfd,badfd")?,
-        Some(RunOutcome::Failed)
-    );
-    Ok(())
+    show(&rt, rt.alloc(), CLOSED, &["busy,busy,badfd,badfd"])
 }
 
-/// 5,000 requests, the last of which is refused.
-#[test]
-fn a_long_run(rt: HostRuntime) -> Result<(), Fail> {
-    let alloc = rt.alloc();
+/// A script of 5,000 requests that are done.
+fn long_script(alloc: Global) -> Result<Vec<u8>, AllocError> {
     let mut script = Vec::new(alloc);
     script.extend_from_slice(b"1 open 0 rw\n1 setlk 0 w set 0 1\n1 fork 2\n")?;
     for _ in 0..5_000u32 {
         script.extend_from_slice(b"2 seek 0 0\n")?;
     }
-    assert_eq!(rt;
-        outcome_of(alloc, &script, "busy,stuck,dropped,badfd")?,
-        Some(RunOutcome::Passed)
-    );
+    Ok(script)
+}
+
+/// Behind them, one more is refused.
+#[test]
+fn a_long_run(rt: HostRuntime) -> Result<(), Fail> {
+    let mut script = long_script(rt.alloc())?;
+    show_not(&rt, rt.alloc(), &script, &["busy,stuck,dropped,badfd"])?;
     script.extend_from_slice(b"2 setlk 0 r set 0 0\n")?;
-    assert_eq!(rt;
-        outcome_of(alloc, &script, "stuck,badfd,busy")?,
-        Some(RunOutcome::Failed)
-    );
-    Ok(())
+    show(&rt, rt.alloc(), &script, &["stuck,badfd,busy"])
 }
