@@ -7,8 +7,8 @@ mod change_list;
 
 use change_list::ChangeList;
 use range_core::{Memory, Mode, OFFMAX, RangeFault, RangeList, Span, Whence, resolve};
+use std::fmt::Debug;
 use std::process::Abort;
-use std::test::Fail;
 
 /// The bytes of a range by its first and its last one.
 fn bytes(first: u64, last: u64) -> Span
@@ -17,19 +17,19 @@ fn bytes(first: u64, last: u64) -> Span
     Span { first, last }
 }
 
-/// These are the list's runs.
-fn assert_runs(rt: &impl Abort, list: &RangeList, wanted: &[(Mode, Span)]) {
-    assert_eq!(rt; list.runs(), wanted);
+/// The two are the same.
+fn same<T: PartialEq + Debug + Drop>(rt: &impl Abort, left: T, right: T) {
+    assert_eq!(rt; left, right);
 }
 
 /// The run at the byte is this one.
 fn assert_run_at(rt: &impl Abort, list: &RangeList, byte: u64, wanted: Option<(Mode, Span)>) {
-    assert_eq!(rt; list.run_at(byte), wanted, "the run at {byte}");
+    same(rt, (byte, list.run_at(byte)), (byte, wanted));
 }
 
 /// The mode of the byte is this one.
 fn assert_mode_at(rt: &impl Abort, list: &RangeList, byte: u64, wanted: Option<Mode>) {
-    assert_eq!(rt; list.mode_at(byte), wanted, "the mode at {byte}");
+    same(rt, (byte, list.mode_at(byte)), (byte, wanted));
 }
 
 /// The first byte of the span that conflicts is this one.
@@ -40,11 +40,7 @@ fn assert_first_hit(
     wanted: Option<u64>,
 ) {
     assert!(rt; span.first <= span.last && span.last <= OFFMAX);
-    assert_eq!(rt;
-        list.first_hit(span, against),
-        wanted,
-        "the first hit in {span:?}"
-    );
+    same(rt, (span, list.first_hit(span, against)), (span, wanted));
 }
 
 /// [`RangeList::set`] of bytes that a file has.
@@ -58,138 +54,163 @@ fn set(
     list.set(span, mode)
 }
 
-/// What a lock description names, by the rules of `struct flock`.
+/// What a lock description names, in a file of 50 bytes at the offset 100.
+fn names(
+    rt: &impl Abort,
+    (whence, start, len): (Whence, i64, i64),
+    wanted: Result<Span, RangeFault>,
+) {
+    let named = resolve(whence, start, len, 100, 50);
+    same(
+        rt,
+        (whence, start, len, named),
+        (whence, start, len, wanted),
+    );
+}
+
+/// What lock descriptions name, by the rules of `struct flock`.
 #[test]
 fn names_ranges(rt: HostRuntime) {
     let whole = OFFMAX as i64;
-    for (whence, start, len, wanted) in [
-        (Whence::Set, 10, 5, Ok(bytes(10, 14))),
-        (Whence::Set, 10, -10, Ok(bytes(0, 9))),
-        (Whence::Set, 10, -11, Err(RangeFault::Invalid)),
-        (Whence::Set, 7, 0, Ok(bytes(7, OFFMAX))),
-        (Whence::Set, whole, 1, Ok(bytes(OFFMAX, OFFMAX))),
-        (Whence::Set, whole, 2, Err(RangeFault::Overflow)),
-        (Whence::Cur, -100, 1, Ok(bytes(0, 0))),
-        (Whence::Cur, whole, 0, Err(RangeFault::Overflow)),
-        (Whence::End, 0, -50, Ok(bytes(0, 49))),
-        (Whence::End, i64::MIN, i64::MIN, Err(RangeFault::Invalid)),
-    ] {
-        let named = resolve(whence, start, len, 100, 50);
-        assert_eq!(rt; named, wanted, "{whence:?} {start} {len}");
-    }
+    names(&rt, (Whence::Set, 10, 5), Ok(bytes(10, 14)));
+    names(&rt, (Whence::Set, 10, -10), Ok(bytes(0, 9)));
+    names(&rt, (Whence::Set, 10, -11), Err(RangeFault::Invalid));
+    names(&rt, (Whence::Set, 7, 0), Ok(bytes(7, OFFMAX)));
+    names(&rt, (Whence::Set, whole, 1), Ok(bytes(OFFMAX, OFFMAX)));
+    names(&rt, (Whence::Set, whole, 2), Err(RangeFault::Overflow));
+    names(&rt, (Whence::Cur, -100, 1), Ok(bytes(0, 0)));
+    names(&rt, (Whence::Cur, whole, 0), Err(RangeFault::Overflow));
+    names(&rt, (Whence::End, 0, -50), Ok(bytes(0, 49)));
+    names(
+        &rt,
+        (Whence::End, i64::MIN, i64::MIN),
+        Err(RangeFault::Invalid),
+    );
 }
 
-/// Sets in turn, each with the runs that it leaves: a read lock inside a write lock leaves three, an unlock in the middle both sides;
-/// touching ranges of one mode are one run, also to the largest offset; and an unlock of all leaves none.
-#[test]
-fn sets_leave_runs(rt: HostRuntime) -> Result<(), Fail> {
-    let mut list = RangeList::new(rt.alloc());
-    assert_runs(&rt, &list, &[]);
-    let (read, write) = (Mode::Read, Mode::Write);
-    for (span, mode, wanted) in [
-        (
-            bytes(0, 99),
-            Some(write),
-            [(write, bytes(0, 99))].as_slice(),
-        ),
-        (
-            bytes(40, 59),
-            Some(read),
-            &[
-                (write, bytes(0, 39)),
-                (read, bytes(40, 59)),
-                (write, bytes(60, 99)),
-            ],
-        ),
-        (
-            bytes(0, 39),
-            None,
-            &[(read, bytes(40, 59)), (write, bytes(60, 99))],
-        ),
-        (
-            bytes(70, 79),
-            None,
-            &[
-                (read, bytes(40, 59)),
-                (write, bytes(60, 69)),
-                (write, bytes(80, 99)),
-            ],
-        ),
-        (
-            bytes(60, 79),
-            Some(write),
-            &[(read, bytes(40, 59)), (write, bytes(60, 99))],
-        ),
-        (
-            bytes(100, OFFMAX),
-            Some(write),
-            &[(read, bytes(40, 59)), (write, bytes(60, OFFMAX))],
-        ),
-        (
-            bytes(10, 200),
-            Some(read),
-            &[(read, bytes(10, 200)), (write, bytes(201, OFFMAX))],
-        ),
-        (bytes(0, OFFMAX), None, &[]),
-    ] {
-        set(&rt, &mut list, span, mode)?;
-        assert_runs(&rt, &list, wanted);
-    }
+/// The set leaves these runs.
+fn leaves(
+    rt: &impl Abort,
+    list: &mut RangeList,
+    (span, mode): (Span, Option<Mode>),
+    wanted: &[(Mode, Span)],
+) -> Result<(), Memory> {
+    set(rt, list, span, mode)?;
+    same(rt, list.runs(), wanted);
     Ok(())
 }
 
-/// Room that is held serves that many sets, and a growth that is refused leaves the list as it was.
+/// A read lock inside a write lock leaves three, and an unlock in the middle both sides.
+fn sets_cut_runs(rt: &impl Abort, list: &mut RangeList) -> Result<(), Memory> {
+    let (read, write) = (Mode::Read, Mode::Write);
+    leaves(
+        rt,
+        list,
+        (bytes(0, 99), Some(write)),
+        &[(write, bytes(0, 99))],
+    )?;
+    let three = [
+        (write, bytes(0, 39)),
+        (read, bytes(40, 59)),
+        (write, bytes(60, 99)),
+    ];
+    leaves(rt, list, (bytes(40, 59), Some(read)), &three)?;
+    let two = [(read, bytes(40, 59)), (write, bytes(60, 99))];
+    leaves(rt, list, (bytes(0, 39), None), &two)?;
+    let sides = [
+        (read, bytes(40, 59)),
+        (write, bytes(60, 69)),
+        (write, bytes(80, 99)),
+    ];
+    leaves(rt, list, (bytes(70, 79), None), &sides)
+}
+
+/// Behind them, touching ranges of one mode are one run, also to the largest offset; and an unlock of all leaves none.
+fn sets_join_runs(rt: &impl Abort, list: &mut RangeList) -> Result<(), Memory> {
+    let (read, write) = (Mode::Read, Mode::Write);
+    let joined = [(read, bytes(40, 59)), (write, bytes(60, 99))];
+    leaves(rt, list, (bytes(60, 79), Some(write)), &joined)?;
+    let longer = [(read, bytes(40, 59)), (write, bytes(60, OFFMAX))];
+    leaves(rt, list, (bytes(100, OFFMAX), Some(write)), &longer)?;
+    let over = [(read, bytes(10, 200)), (write, bytes(201, OFFMAX))];
+    leaves(rt, list, (bytes(10, 200), Some(read)), &over)?;
+    leaves(rt, list, (bytes(0, OFFMAX), None), &[])
+}
+
 #[test]
-fn holds_room(rt: HostRuntime) -> Result<(), Fail> {
-    let mut list = RangeList::new(rt.alloc());
+fn sets_leave_runs(rt: HostRuntime) -> Result<(), Memory> {
+    let list = &mut RangeList::new(rt.alloc());
+    same(&rt, list.runs(), [].as_slice());
+    sets_cut_runs(&rt, list)?;
+    sets_join_runs(&rt, list)
+}
+
+/// A list with room for two changes more, in which two bytes are read.
+fn read_two(rt: &impl Abort, list: &mut RangeList) -> Result<(), Memory> {
     list.reserve(2)?;
-    set(&rt, &mut list, bytes(5, 6), Some(Mode::Read))?;
+    set(rt, list, bytes(5, 6), Some(Mode::Read))
+}
+
+/// A growth that is refused leaves the list as it was, and the room serves a set of one of the bytes.
+fn set_in_the_room(rt: &impl Abort, list: &mut RangeList) {
     let room = list.room();
     assert!(rt; room >= 2);
-    assert!(rt; list.reserve(usize::MAX).is_err());
-    assert!(rt; list.room() == room);
-    assert_run_at(&rt, &list, 5, Some((Mode::Read, bytes(5, 6))));
+    same(rt, list.reserve(usize::MAX).is_err(), true);
+    same(rt, list.room(), room);
+    assert_run_at(rt, list, 5, Some((Mode::Read, bytes(5, 6))));
     list.set_reserved(bytes(6, 6), None);
-    assert!(rt; list.room() >= room - 1);
-    assert_run_at(&rt, &list, 5, Some((Mode::Read, bytes(5, 5))));
+    same(rt, list.room() >= room - 1, true);
+    assert_run_at(rt, list, 5, Some((Mode::Read, bytes(5, 5))));
+}
+
+/// Room that is held serves that many sets.
+#[test]
+fn holds_room(rt: HostRuntime) -> Result<(), Memory> {
+    let list = &mut RangeList::new(rt.alloc());
+    read_two(&rt, list)?;
+    set_in_the_room(&rt, list);
+    Ok(())
+}
+
+/// Every second byte is written, a thousand of them.
+fn write_every_second(rt: &impl Abort, list: &mut RangeList) -> Result<(), Memory> {
+    for index in 0..1000 {
+        let byte = bytes(2 * index, 2 * index);
+        set(rt, list, byte, Some(Mode::Write))?;
+    }
     Ok(())
 }
 
 /// A set uses room up and leaves as much as there was, however many there are.
 #[test]
-fn many_sets_leave_the_room(rt: HostRuntime) -> Result<(), Fail> {
-    let mut list = RangeList::new(rt.alloc());
+fn many_sets_leave_the_room(rt: HostRuntime) -> Result<(), Memory> {
+    let list = &mut RangeList::new(rt.alloc());
     list.reserve(2)?;
-    for index in 0..1000 {
-        set(
-            &rt,
-            &mut list,
-            bytes(2 * index, 2 * index),
-            Some(Mode::Write),
-        )?;
-    }
-    assert_eq!(rt; list.room(), 2);
-    assert_run_at(&rt, &list, 1998, Some((Mode::Write, bytes(1998, 1998))));
+    write_every_second(&rt, list)?;
+    same(&rt, list.room(), 2);
+    assert_run_at(&rt, list, 1998, Some((Mode::Write, bytes(1998, 1998))));
     Ok(())
 }
 
-/// Thousands of runs apart from one another, each cut in three, go at once where all is unlocked.
-#[test]
-fn thousands_of_runs_go_at_once(rt: HostRuntime) -> Result<(), Fail> {
-    let mut list = RangeList::new(rt.alloc());
+/// Thousands of runs apart from one another are read, and each is cut in three.
+fn cut_runs(rt: &impl Abort, list: &mut RangeList) -> Result<(), Memory> {
     for index in 0..5000 {
         let first = 10 * index;
-        set(&rt, &mut list, bytes(first, first + 4), Some(Mode::Read))?;
-        set(
-            &rt,
-            &mut list,
-            bytes(first + 1, first + 1),
-            Some(Mode::Write),
-        )?;
+        set(rt, list, bytes(first, first + 4), Some(Mode::Read))?;
+        let second = bytes(first + 1, first + 1);
+        set(rt, list, second, Some(Mode::Write))?;
     }
-    assert_eq!(rt; list.runs().len(), 15_000);
-    set(&rt, &mut list, bytes(0, OFFMAX), None)?;
-    assert_runs(&rt, &list, &[]);
+    Ok(())
+}
+
+/// They go at once where all is unlocked.
+#[test]
+fn thousands_of_runs_go_at_once(rt: HostRuntime) -> Result<(), Memory> {
+    let list = &mut RangeList::new(rt.alloc());
+    cut_runs(&rt, list)?;
+    same(&rt, list.runs().len(), 15_000);
+    set(&rt, list, bytes(0, OFFMAX), None)?;
+    same(&rt, list.runs(), [].as_slice());
     Ok(())
 }
 
@@ -237,7 +258,7 @@ fn assert_same_near(rt: &impl Abort, list: &RangeList, changes: &ChangeList, end
 /// The runs answer as the list of all changes does, near the ends of each set, at both ends of the largest file; both begin anew where
 /// the list of all changes has grown long.
 #[test]
-fn answers_as_the_changes_do(rt: HostRuntime) -> Result<(), Fail> {
+fn answers_as_the_changes_do(rt: HostRuntime) -> Result<(), Memory> {
     let mut list = RangeList::new(rt.alloc());
     let mut changes = ChangeList::new(rt.alloc());
     for k in 0..2000 {
