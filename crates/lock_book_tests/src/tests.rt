@@ -48,9 +48,10 @@ fn holds_room_and_places(rt: HostRuntime) -> Result<(), Fail> {
     let mut book = Book::new(rt.alloc());
     let owner = Owner::Description(1);
     book.reserve(owner, 2)?;
-    assert!(rt; book.reserve(owner, usize::MAX).is_err());
+    same(&rt, book.reserve(owner, usize::MAX).is_err(), true);
     book.set_reserved(owner, bytes(5, 9), Some(Mode::Write));
-    assert!(rt; book.blocked(Owner::Process(1), bytes(9, 9), Mode::Read));
+    let is_blocked = book.blocked(Owner::Process(1), bytes(9, 9), Mode::Read);
+    same(&rt, is_blocked, true);
     book.flock_reserve(1)?;
     book.flock_set_reserved(1, Some(Mode::Read));
     same(&rt, book.flock_mode(1), Some(Mode::Read));
@@ -58,7 +59,7 @@ fn holds_room_and_places(rt: HostRuntime) -> Result<(), Fail> {
 }
 
 /// A call that may grow.
-#[derive(Clone, Copy, Debug)]
+#[derive(Clone, Copy)]
 enum Growth {
     Set(Owner),
     Reserve(Owner),
@@ -84,7 +85,7 @@ fn held_again(rt: &impl Abort, book: &Book) -> Result<Vec<Held>, Memory> {
         return first;
     }
     let second = book.held(3);
-    assert!(rt; second.is_ok(), "refused again");
+    same(rt, ("made again", second.is_ok()), ("made again", true));
     second
 }
 
@@ -106,13 +107,13 @@ fn grow(rt: &impl Abort, book: &mut Book, growth: Growth) -> Result<(), Memory> 
         same(rt, held_again(rt, book)?.as_slice(), before.as_slice());
         same(rt, rooms_of(book), rooms);
         let second = growth.apply(book);
-        assert!(rt; second.is_ok(), "refused again: {growth:?}");
+        same(rt, ("made again", second), ("made again", Ok(())));
     }
     Ok(())
 }
 
 /// Calls in turn, each of which may be refused its growth.
-const GROWTHS: [Growth; 7] = [
+const GROWTHS: &[Growth] = &[
     Growth::Set(Owner::Process(1)),
     Growth::Reserve(Owner::Process(1)),
     Growth::Reserve(Owner::Description(1)),
@@ -127,7 +128,7 @@ const GROWTHS: [Growth; 7] = [
 fn refused_growth_changes_nothing(rt: HostRuntime) -> Result<(), Fail> {
     let mut book = Book::new(rt.alloc());
     for growth in GROWTHS {
-        grow(&rt, &mut book, growth)?;
+        grow(&rt, &mut book, *growth)?;
     }
     let wanted = [
         byte_line(Owner::Process(1), Mode::Write, 2, 5),
@@ -136,7 +137,7 @@ fn refused_growth_changes_nothing(rt: HostRuntime) -> Result<(), Fail> {
         flock_line(2, Mode::Read),
     ];
     same(&rt, held_again(&rt, &book)?.as_slice(), wanted.as_slice());
-    assert!(rt; book.room(Owner::Process(1)) >= 100);
+    same(&rt, book.room(Owner::Process(1)) >= 100, true);
     Ok(())
 }
 
@@ -206,8 +207,8 @@ fn counts_flock_locks_as_a_walk_does(rt: HostRuntime) -> Result<(), Fail> {
         book.flock_set(description as u64, None)?;
         held[description] = None;
     }
-    assert!(rt; !book.flock_blocked(0, Mode::Write));
-    assert!(rt; !book.flock_blocks_all(Mode::Write));
+    same(&rt, book.flock_blocked(0, Mode::Write), false);
+    same(&rt, book.flock_blocks_all(Mode::Write), false);
     Ok(())
 }
 
@@ -232,11 +233,13 @@ fn go(rt: &impl Abort, book: &mut Book) -> Result<(), Memory> {
             mode: Mode::Read,
             span: bytes(number, number),
         };
-        assert!(rt; book.blocked(ASKER, bytes(0, OFFMAX), Mode::Write));
+        let is_blocked = book.blocked(ASKER, bytes(0, OFFMAX), Mode::Write);
+        same(rt, (number, is_blocked), (number, true));
         let first = book.first_blocker(ASKER, bytes(0, OFFMAX), Mode::Write);
         same(rt, first, Some(blocker));
         book.set(owner, bytes(0, OFFMAX), None)?;
-        assert!(rt; !book.blocked(ASKER, bytes(0, number), Mode::Write));
+        let is_blocked = book.blocked(ASKER, bytes(0, number), Mode::Write);
+        same(rt, (number, is_blocked), (number, false));
     }
     Ok(())
 }
@@ -247,9 +250,10 @@ fn many_owners_come_and_go(rt: HostRuntime) -> Result<(), Fail> {
     let mut book = Book::new(rt.alloc());
     come(&mut book)?;
     same(&rt, book.held(3)?.len(), 700);
-    assert!(rt; !book.blocked(ASKER, bytes(0, OFFMAX), Mode::Read));
+    let is_blocked = book.blocked(ASKER, bytes(0, OFFMAX), Mode::Read);
+    same(&rt, is_blocked, false);
     go(&rt, &mut book)?;
-    assert!(rt; book.held(3)?.is_empty());
+    same(&rt, book.held(3)?.is_empty(), true);
     Ok(())
 }
 
@@ -292,7 +296,7 @@ fn set_plainly(
     owner: Owner,
     span: Span,
     mode: Option<Mode>,
-) -> Result<Vec<OnByte>, Fail> {
+) -> Result<Vec<OnByte>, Memory> {
     let mut rest = Vec::new(alloc);
     for lock in locks {
         if lock.owner != owner || lock.byte < span.first || span.last < lock.byte {
@@ -333,7 +337,7 @@ fn change(
     owner: Owner,
     span: Span,
     mode: Option<Mode>,
-) -> Result<(), Fail> {
+) -> Result<(), Memory> {
     assert!(rt; span.first <= span.last && span.last <= OFFMAX);
     match way {
         0 => book.release_owner(owner),
@@ -368,7 +372,7 @@ impl Compared {
     }
 
     /// A lock of the owner on its own byte and some more, as its first.
-    fn lock(&mut self, rt: &impl Abort, number: u64) -> Result<(), Fail> {
+    fn lock(&mut self, rt: &impl Abort, number: u64) -> Result<(), Memory> {
         assert!(rt; number < 1000);
         let span = bytes(number % 30, number % 30 + number % 3);
         let mode = spelled_mode(number);
@@ -378,7 +382,7 @@ impl Compared {
     }
 
     /// A change that looks random, by one of so many owners.
-    fn change(&mut self, rt: &impl Abort, owners: u64) -> Result<(), Fail> {
+    fn change(&mut self, rt: &impl Abort, owners: u64) -> Result<(), Memory> {
         assert!(rt; owners > 0);
         self.seed = next(self.seed);
         let who = owner((self.seed >> 33) % owners);
@@ -420,7 +424,8 @@ impl Compared {
         if let (Some(blocker), Some(least)) = (blocker, least) {
             let told = (step, blocker.owner, blocker.mode);
             same(rt, told, (step, least.owner, least.mode));
-            assert!(rt; blocker.span.first <= least.byte && least.byte <= blocker.span.last);
+            let has_byte = blocker.span.first <= least.byte && least.byte <= blocker.span.last;
+            same(rt, (step, has_byte), (step, true));
         }
         same(rt, self.book.is_empty(), self.locks.is_empty());
     }
