@@ -3,9 +3,10 @@ ghost use Rattle.std.specs.Prelude.{true, false, ◌≡◌};
 ghost use Rattle.std.specs.Bool.{nat_le};
 
 use arrival_list::ArrivalList;
+use range_core::Memory;
 use std::alloc::Global;
+use std::fmt::Debug;
 use std::process::Abort;
-use std::test::Fail;
 use summary_tree::{Query, Summary, Walk};
 
 /// The greatest number.
@@ -66,6 +67,26 @@ fn next(seed: u64) -> u64 {
         .wrapping_add(1442695040888963407)
 }
 
+/// The two are the same.
+fn same<T: PartialEq + Debug + Drop>(rt: &impl Abort, left: T, right: T) {
+    assert_eq!(rt; left, right);
+}
+
+/// The place of the first number from a place on that is at least so great, and how many are.
+fn found_plainly(numbers: &[u64], from: u64, least: u64) -> (Option<u64>, u64) {
+    let mut first = None;
+    let mut count = 0u64;
+    for (place, number) in numbers.iter().enumerate() {
+        if least <= *number {
+            count = count.wrapping_add(1);
+            if first.is_none() && from <= place as u64 {
+                first = Some(place as u64);
+            }
+        }
+    }
+    (first, count)
+}
+
 /// A list and a vector with the same numbers.
 #[derive(Drop)]
 struct Both {
@@ -81,7 +102,7 @@ impl Both {
         }
     }
 
-    fn push(&mut self, number: u64) -> Result<(), Fail> {
+    fn push(&mut self, number: u64) -> Result<(), Memory> {
         self.list.reserve(1)?;
         self.list.push(number);
         self.plain.push(number)?;
@@ -91,36 +112,29 @@ impl Both {
     /// Takes out the number at a place, where there is one.
     fn take(&mut self, rt: &impl Abort, place: u64) {
         let taken = self.list.take(place);
-        if (place as usize) < self.plain.len() {
-            assert_eq!(rt; taken, Some(self.plain.remove(place as usize)));
+        let due = if (place as usize) < self.plain.len() {
+            Some(self.plain.remove(place as usize))
         } else {
-            assert_eq!(rt; taken, None);
-        }
+            None
+        };
+        same(rt, taken, due);
     }
 
     /// What is asked of both is the same.
     fn compare(&self, rt: &impl Abort, from: u64, least: u64) {
-        assert_eq!(rt; self.list.len(), self.plain.len() as u64);
-        assert_eq!(rt; self.list.is_empty(), self.plain.is_empty());
-        let mut first = None;
-        let mut count = 0u64;
-        for (place, number) in self.plain.iter().enumerate() {
-            if least <= *number {
-                count = count.wrapping_add(1);
-                if first.is_none() && from <= place as u64 {
-                    first = Some(place as u64);
-                }
-            }
-        }
-        assert_eq!(rt; self.list.place_from(from, From(least)), first);
-        assert_eq!(rt; self.list.count_where(From(least)), count);
-        assert_eq!(rt; self.list.get(from), self.plain.get(from as usize).copied());
+        same(rt, self.list.len(), self.plain.len() as u64);
+        same(rt, self.list.is_empty(), self.plain.is_empty());
+        let (first, count) = found_plainly(&self.plain, from, least);
+        same(rt, self.list.place_from(from, From(least)), first);
+        same(rt, self.list.count_where(From(least)), count);
+        let number = self.plain.get(from as usize).copied();
+        same(rt, self.list.get(from), number);
     }
 }
 
 /// Numbers come, and go from the midst.
 #[test]
-fn numbers_come_and_go(rt: HostRuntime) -> Result<(), Fail> {
+fn numbers_come_and_go(rt: HostRuntime) -> Result<(), Memory> {
     let mut both = Both::new(rt.alloc());
     let mut seed = 7u64;
     for step in 0..600u64 {
@@ -139,7 +153,7 @@ fn numbers_come_and_go(rt: HostRuntime) -> Result<(), Fail> {
 
 /// The numbers are gone through in order of arrival.
 #[test]
-fn goes_through_all(rt: HostRuntime) -> Result<(), Fail> {
+fn goes_through_all(rt: HostRuntime) -> Result<(), Memory> {
     let mut both = Both::new(rt.alloc());
     for number in 1..8u64 {
         both.push(number)?;
@@ -147,21 +161,21 @@ fn goes_through_all(rt: HostRuntime) -> Result<(), Fail> {
     both.take(&rt, 2);
     let mut digits = 0;
     both.list.walk(Digits, &mut digits);
-    assert_eq!(rt; digits, 124567);
+    same(&rt, digits, 124567);
     Ok(())
 }
 
 /// With `--fail-alloc N` one of these growths is refused, and then the list is as it was.
 #[test]
-fn a_refused_growth_leaves_the_list_as_it_was(rt: HostRuntime) -> Result<(), Fail> {
+fn a_refused_growth_leaves_the_list_as_it_was(rt: HostRuntime) -> Result<(), Memory> {
     let mut list: ArrivalList<u64, Greatest> = ArrivalList::new(rt.alloc());
     for number in 0..70u64 {
         if list.reserve(2).is_err() {
-            assert_eq!(rt; list.len(), number);
+            same(&rt, list.len(), number);
             list.reserve(2)?;
         }
         list.push(number);
     }
-    assert_eq!(rt; list.len(), 70);
+    same(&rt, list.len(), 70);
     Ok(())
 }

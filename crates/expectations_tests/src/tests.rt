@@ -2,7 +2,8 @@
 use expectations::{ExpectOutcome, judge_expectations};
 use replay_core::{FromReader, RunFault, ToWriter};
 use script_core::{Cause, SCRIPT_MAX, ScriptFault};
-use std::alloc::Global;
+use std::alloc::{AllocError, Global};
+use std::fmt::Debug;
 use std::process::Abort;
 use std::str;
 use std::test::Fail;
@@ -64,18 +65,16 @@ const SPACED: &[u8] = b"1 open 0 rw
 #
 # expect proc  1 sent  1 taken 1 answered 1 live";
 
+/// The two are the same.
+fn same<T: PartialEq + Debug + Drop>(rt: &impl Abort, left: T, right: T) {
+    assert_eq!(rt; left, right);
+}
+
 /// What is told of a script: its outcome, or its fault.
 #[derive(Drop)]
 struct Told {
     ended: Result<ExpectOutcome, RunFault>,
     text: Vec<u8>,
-}
-
-impl Told {
-    /// Whether nothing is told but that the script has this fault.
-    fn is_fault(&self, line: u64, cause: Cause) -> bool {
-        self.text.is_empty() && self.ended == Err(RunFault::Script(ScriptFault { line, cause }))
-    }
 }
 
 /// What is told of this script.
@@ -87,110 +86,140 @@ fn told_of(alloc: Global, script: &[u8]) -> Told {
     Told { ended, text }
 }
 
-#[test]
-fn each_is_met(rt: HostRuntime) -> Result<(), Fail> {
-    for script in [
-        CONFLICT,
-        SPACED,
-        b"",
-        b"# expect proc 1 sent 0 taken 0 answered 0 live",
-    ] {
-        let told = told_of(rt.alloc(), script);
-        assert_eq!(rt; str::from_utf8(&told.text), Ok(""));
-        assert_eq!(rt; told.ended, Ok(ExpectOutcome::Met));
-    }
-    Ok(())
+/// This is told of the script, whose outcome it is.
+fn tells(rt: &impl Abort, alloc: Global, script: &[u8], outcome: ExpectOutcome, text: &str) {
+    let told = told_of(alloc, script);
+    same(rt, str::from_utf8(&told.text), Ok(text));
+    same(rt, told.ended, Ok(outcome));
+}
+
+/// Nothing is told of the script but that each expectation is met.
+fn is_met(rt: &impl Abort, alloc: Global, script: &[u8]) {
+    tells(rt, alloc, script, ExpectOutcome::Met, "");
+}
+
+/// Nothing is told of the script but that it has this fault.
+fn is_fault(rt: &impl Abort, alloc: Global, script: &[u8], line: u64, cause: Cause) {
+    let told = told_of(alloc, script);
+    let fault = RunFault::Script(ScriptFault { line, cause });
+    same(rt, (line, told.text.is_empty()), (line, true));
+    same(rt, told.ended, Err(fault));
 }
 
 #[test]
-fn some_are_unmet(rt: HostRuntime) -> Result<(), Fail> {
-    let told = told_of(rt.alloc(), UNMET);
-    assert_eq!(rt; str::from_utf8(&told.text), Ok(UNMET_TOLD));
-    assert_eq!(rt; told.ended, Ok(ExpectOutcome::Unmet));
-    Ok(())
+fn each_is_met(rt: HostRuntime) {
+    let none = b"# expect proc 1 sent 0 taken 0 answered 0 live";
+    is_met(&rt, rt.alloc(), CONFLICT);
+    is_met(&rt, rt.alloc(), SPACED);
+    is_met(&rt, rt.alloc(), b"");
+    is_met(&rt, rt.alloc(), none);
+}
+
+#[test]
+fn some_are_unmet(rt: HostRuntime) {
+    tells(&rt, rt.alloc(), UNMET, ExpectOutcome::Unmet, UNMET_TOLD);
 }
 
 /// The text is told with one space between each two words.
 #[test]
-fn words_are_told_with_one_space(rt: HostRuntime) -> Result<(), Fail> {
+fn words_are_told_with_one_space(rt: HostRuntime) {
     let told = told_of(rt.alloc(), b"1 open 0 rw\n # expect  1#1   fd   1  ");
-    assert_eq!(rt;
-        str::from_utf8(&told.text),
-        Ok("line 2: fd 0, expected fd 1\n")
-    );
-    Ok(())
+    let due = "line 2: fd 0, expected fd 1\n";
+    same(&rt, str::from_utf8(&told.text), Ok(due));
+}
+
+/// What stands behind `# expect` and is no expectation.
+const OTHER_FORMS: &[&str] = &[
+    "",
+    " no",
+    " no 1#1 ok",
+    " no no lock 0 process 1 w 0 9",
+    " 1#1",
+    " 1#x ok",
+    " 1#01 ok",
+    " 01#1 ok",
+    " 0#1 ok",
+    " 17#1 none",
+    " 1#18446744073709551616 none",
+    " 1#1#1 ok",
+    " #1 ok",
+    " 1 open 0 rw",
+    " locks 0",
+    " ok",
+];
+
+/// A script whose second line is an expectation in this form.
+fn expecting(alloc: Global, form: &str) -> Result<Vec<u8>, AllocError> {
+    let mut script = Vec::from_slice(alloc, b"1 open 0 rw\n# expect")?;
+    script.extend_from_slice(form.as_bytes())?;
+    Ok(script)
 }
 
 #[test]
-fn other_forms(rt: HostRuntime) -> Result<(), Fail> {
-    for form in [
-        "",
-        " no",
-        " no 1#1 ok",
-        " no no lock 0 process 1 w 0 9",
-        " 1#1",
-        " 1#x ok",
-        " 1#01 ok",
-        " 01#1 ok",
-        " 0#1 ok",
-        " 17#1 none",
-        " 1#18446744073709551616 none",
-        " 1#1#1 ok",
-        " #1 ok",
-        " 1 open 0 rw",
-        " locks 0",
-        " ok",
-    ] {
-        let mut script = Vec::from_slice(rt.alloc(), b"1 open 0 rw\n# expect")?;
-        script.extend_from_slice(form.as_bytes())?;
-        assert!(rt; told_of(rt.alloc(), &script).is_fault(2, Cause::Word));
+fn in_other_forms(rt: HostRuntime) -> Result<(), Fail> {
+    for form in OTHER_FORMS {
+        let script = expecting(rt.alloc(), form)?;
+        is_fault(&rt, rt.alloc(), &script, 2, Cause::Word);
     }
     Ok(())
 }
 
 /// Of a faulty line and an expectation in another form the earlier one is told; a line that is too long, or has another byte than printable
 /// ones, is the script's fault.
+const FAULTY: &[(&[u8], u64, Cause)] = &[
+    (b"# expect\n1 opens\n", 1, Cause::Word),
+    (b"2\n# expect\n", 1, Cause::Count),
+    (
+        b"1 exit\n# expect 1#1 ok\n\n1\n# expect 1#1 ok",
+        4,
+        Cause::Count,
+    ),
+    (b"# expect 1#1 none\n\t# expect\n", 2, Cause::Byte),
+    (b"# expect \t", 1, Cause::Byte),
+];
+
 #[test]
-fn the_first_fault(rt: HostRuntime) -> Result<(), Fail> {
-    let alloc = rt.alloc();
-    assert!(rt; told_of(alloc, b"# expect\n1 opens\n").is_fault(1, Cause::Word));
-    assert!(rt; told_of(alloc, b"2\n# expect\n").is_fault(1, Cause::Count));
-    assert!(rt;
-        told_of(alloc, b"1 exit\n# expect 1#1 ok\n\n1\n# expect 1#1 ok").is_fault(4, Cause::Count)
-    );
-    assert!(rt; told_of(alloc, b"# expect 1#1 none\n\t# expect\n").is_fault(2, Cause::Byte));
-    assert!(rt; told_of(alloc, b"# expect \t").is_fault(1, Cause::Byte));
-    let mut long = Vec::from_slice(alloc, b"# expect")?;
+fn the_first_fault(rt: HostRuntime) {
+    for (script, line, cause) in FAULTY {
+        is_fault(&rt, rt.alloc(), script, *line, *cause);
+    }
+}
+
+/// A line of 120 bytes isn't too long, and of one more it is.
+#[test]
+fn long_lines(rt: HostRuntime) -> Result<(), Fail> {
+    let mut long = Vec::from_slice(rt.alloc(), b"# expect")?;
     long.resize(121, b' ')?;
-    assert!(rt; told_of(alloc, &long).is_fault(1, Cause::TooLong));
+    is_fault(&rt, rt.alloc(), &long, 1, Cause::TooLong);
     long.truncate(120);
-    assert!(rt; told_of(alloc, &long).is_fault(1, Cause::Word));
+    is_fault(&rt, rt.alloc(), &long, 1, Cause::Word);
     Ok(())
 }
 
-/// A script that is too long has no other fault; the longest may end with an expectation.
-#[test]
-fn the_longest_script(rt: HostRuntime) -> Result<(), Fail> {
-    let mut script = Vec::from_slice(rt.alloc(), b"# expect 1#1 none\n")?;
+/// The longest script, which ends with an expectation.
+fn longest_script(alloc: Global) -> Result<Vec<u8>, AllocError> {
+    let mut script = Vec::from_slice(alloc, b"# expect 1#1 none\n")?;
     script.resize(SCRIPT_MAX - 18, b'\n')?;
     script.extend_from_slice(b"\n# expect 1#1 none")?;
-    assert_eq!(rt; script.len(), SCRIPT_MAX);
-    assert_eq!(rt; told_of(rt.alloc(), &script).ended, Ok(ExpectOutcome::Met));
+    Ok(script)
+}
+
+/// A script that is too long has no other fault.
+#[test]
+fn the_longest_script(rt: HostRuntime) -> Result<(), Fail> {
+    let mut script = longest_script(rt.alloc())?;
+    assert!(rt; script.len() == SCRIPT_MAX);
+    let ended = told_of(rt.alloc(), &script).ended;
+    same(&rt, ended, Ok(ExpectOutcome::Met));
     script[9] = b'x';
-    assert!(rt; told_of(rt.alloc(), &script).is_fault(1, Cause::Word));
+    is_fault(&rt, rt.alloc(), &script, 1, Cause::Word);
     script.push(b'\n')?;
-    assert!(rt; told_of(rt.alloc(), &script).is_fault(0, Cause::TooLong));
+    is_fault(&rt, rt.alloc(), &script, 0, Cause::TooLong);
     Ok(())
 }
 
-/// The rules are those of the header lines in front.
-#[test]
-fn header_lines(rt: HostRuntime) -> Result<(), Fail> {
-    let alloc = rt.alloc();
-    assert!(rt; told_of(alloc, b"# expect 17#1 none\nlimits wide\n").is_fault(1, Cause::Word));
-    let told = told_of(
-        alloc,
-        b"# expect 1#1 none
+/// Header lines in front of expectations.
+const HEADED: &[u8] = b"# expect 1#1 none
 limits wide
 # expect 17#1 none
 policy queue
@@ -201,19 +230,18 @@ policy queue
 2 setlkw 0 w set 0 1
 64 setlkw 0 r set 0 1
 # expect 64#1 waits
-",
-    );
-    assert_eq!(rt; str::from_utf8(&told.text), Ok(""));
-    assert_eq!(rt; told.ended, Ok(ExpectOutcome::Met));
-    Ok(())
+";
+
+/// The rules are those of the header lines in front.
+#[test]
+fn header_lines(rt: HostRuntime) {
+    let behind = b"# expect 17#1 none\nlimits wide\n";
+    is_fault(&rt, rt.alloc(), behind, 1, Cause::Word);
+    is_met(&rt, rt.alloc(), HEADED);
 }
 
 /// The last note on a request is the answer of a wait that was signalled, or granted; each error, and a lock that is told.
-#[test]
-fn each_note(rt: HostRuntime) -> Result<(), Fail> {
-    let told = told_of(
-        rt.alloc(),
-        b"1 open 0 rw
+const NOTED: &[u8] = b"1 open 0 rw
 1 fork 2
 1 setlk 0 w set 0 1
 2 setlkw 0 w set 0 1
@@ -241,11 +269,11 @@ fn each_note(rt: HostRuntime) -> Result<(), Fail> {
 # expect 1#6 none
 # expect proc 1 sent 6 taken 6 answered 5 ended
 2 exit
-",
-    );
-    assert_eq!(rt; str::from_utf8(&told.text), Ok(""));
-    assert_eq!(rt; told.ended, Ok(ExpectOutcome::Met));
-    Ok(())
+";
+
+#[test]
+fn each_note(rt: HostRuntime) {
+    is_met(&rt, rt.alloc(), NOTED);
 }
 
 /// 20,000 lines without an expectation are not run.
@@ -255,13 +283,13 @@ fn without_expectations(rt: HostRuntime) -> Result<(), Fail> {
     for _ in 0..20_000u32 {
         script.extend_from_slice(b"1 open 0 rw\n# 1#1 fd 0\n")?;
     }
-    assert_eq!(rt; told_of(rt.alloc(), &script).ended, Ok(ExpectOutcome::Met));
+    let ended = told_of(rt.alloc(), &script).ended;
+    same(&rt, ended, Ok(ExpectOutcome::Met));
     Ok(())
 }
 
 #[test]
-fn statuses(rt: HostRuntime) -> Result<(), Fail> {
-    assert_eq!(rt; ExpectOutcome::Met.status(), 0);
-    assert_eq!(rt; ExpectOutcome::Unmet.status(), 3);
-    Ok(())
+fn statuses(rt: HostRuntime) {
+    same(&rt, ExpectOutcome::Met.status(), 0);
+    same(&rt, ExpectOutcome::Unmet.status(), 3);
 }

@@ -6,9 +6,15 @@ use explore_run::{ExploreOutcome, Exploring, Nobody, Printed, explore_script};
 use replay_core::{FromReader, Outcome, ToWriter, check};
 use script_core::States;
 use std::alloc::{AllocError, Global};
+use std::fmt::Debug;
 use std::process::Abort;
 use std::test::Fail;
 use std::thread::Threads;
+
+/// The two are the same.
+fn same<T: PartialEq + Debug + Drop>(rt: &impl Abort, left: T, right: T) {
+    assert_eq!(rt; left, right);
+}
 
 /// What comes of a search of the script, and the text that is printed.
 fn explore(
@@ -99,9 +105,8 @@ proc 2 sent 2 taken 1 answered 0 waiting
 fn crossed(rt: HostRuntime) -> Result<(), Fail> {
     let fail_on = [Finding::Dropped, Finding::Deadlock];
     let (outcome, text) = explore(&rt, rt.alloc(), CROSSED, 14, Printed::Table, &fail_on)?;
-    assert_eq!(rt; text.as_slice(), CROSSED_TOLD);
-    assert_eq!(rt; outcome, ExploreOutcome::Found);
-    assert_eq!(rt; outcome.status(), 3);
+    same(&rt, text.as_slice(), CROSSED_TOLD);
+    same(&rt, (outcome, outcome.status()), (ExploreOutcome::Found, 3));
     Ok(())
 }
 
@@ -110,8 +115,8 @@ fn crossed(rt: HostRuntime) -> Result<(), Fail> {
 fn nothing_fails(rt: HostRuntime) -> Result<(), Fail> {
     let fail_on = [Finding::Lost, Finding::Busy];
     let (outcome, text) = explore(&rt, rt.alloc(), CROSSED, 1000, Printed::Table, &fail_on)?;
-    assert_eq!(rt; text.as_slice(), CROSSED_TOLD);
-    assert_eq!(rt; outcome.status(), 0);
+    same(&rt, text.as_slice(), CROSSED_TOLD);
+    same(&rt, outcome.status(), 0);
     Ok(())
 }
 
@@ -134,8 +139,8 @@ situations 5
 fn limited(rt: HostRuntime) -> Result<(), Fail> {
     let fail_on = [Finding::Deadlock];
     let (outcome, text) = explore(&rt, rt.alloc(), CROSSED, 5, Printed::Table, &fail_on)?;
-    assert!(rt; text.as_slice().starts_with(LIMITED_TOLD));
-    assert_eq!(rt; outcome.status(), 4);
+    let begins_so = text.as_slice().starts_with(LIMITED_TOLD);
+    same(&rt, (begins_so, outcome.status()), (true, 4));
     Ok(())
 }
 
@@ -172,8 +177,8 @@ longest 7
 fn apart(rt: HostRuntime) -> Result<(), Fail> {
     let fail_on = [Finding::Together];
     let (outcome, text) = explore(&rt, rt.alloc(), APART, 21, Printed::Table, &fail_on)?;
-    assert_eq!(rt; text.as_slice(), APART_TOLD);
-    assert_eq!(rt; outcome.status(), 0);
+    same(&rt, text.as_slice(), APART_TOLD);
+    same(&rt, outcome.status(), 0);
     Ok(())
 }
 
@@ -216,8 +221,8 @@ longest 6
 fn let_in(rt: HostRuntime) -> Result<(), Fail> {
     let fail_on = [Finding::Together];
     let (outcome, text) = explore(&rt, rt.alloc(), LET_IN, 15, Printed::Table, &fail_on)?;
-    assert_eq!(rt; text.as_slice(), LET_IN_TOLD);
-    assert_eq!(rt; outcome.status(), 3);
+    same(&rt, text.as_slice(), LET_IN_TOLD);
+    same(&rt, outcome.status(), 3);
     Ok(())
 }
 
@@ -226,19 +231,23 @@ const SHARED: &[u8] = b"1 fork 2\n1 enter 0 sh\n1 leave 0\n2 enter 0 sh\n2 leave
 
 const SOLE: &[u8] = b"1 fork 2\n1 enter 0 sh\n1 leave 0\n2 enter 0\n2 leave 0\n";
 
+/// The scripts, each with what is printed first of it.
+const VISITED: &[(&[u8], &str)] = &[
+    (SHARED, "deadlock never\nstuck never\ntogether never\n"),
+    (
+        SOLE,
+        "deadlock never\nstuck never\ntogether possible in 3 events\n",
+    ),
+];
+
 /// Shared visits may be together, and a sole one not even with one of these. Each process is yet to be in the section, is, or was.
 #[test]
 fn visits(rt: HostRuntime) -> Result<(), Fail> {
-    for (script, told) in [
-        (SHARED, "deadlock never\nstuck never\ntogether never\n"),
-        (
-            SOLE,
-            "deadlock never\nstuck never\ntogether possible in 3 events\n",
-        ),
-    ] {
+    for (script, told) in VISITED {
         let (_, text) = explore(&rt, rt.alloc(), script, 100, Printed::Table, &[])?;
-        assert!(rt; text.as_slice().starts_with(told.as_bytes()));
-        assert!(rt; holds(text.as_slice(), b"\nsituations 10\nends 1\nlongest 5\n"));
+        let begins_so = text.as_slice().starts_with(told.as_bytes());
+        let has_counts = holds(text.as_slice(), b"\nsituations 10\nends 1\nlongest 5\n");
+        same(&rt, (*told, begins_so, has_counts), (*told, true, true));
     }
     Ok(())
 }
@@ -251,20 +260,34 @@ fn run_of(finding: Finding) -> Printed {
     }
 }
 
-/// A finding's run alone is a legal journal, and there is none of a finding that isn't possible.
+/// What is printed first of a run alone.
+const RUN_ALONE: &[u8] = b"policy held\nlimits small\n1#1 open 0 rw ";
+
+/// The finding's run alone is a legal journal of so many lines.
+fn runs_alone(
+    rt: &(impl Threads + Sync + Abort),
+    alloc: Global,
+    finding: Finding,
+    lines: usize,
+) -> Result<(), Fail> {
+    let (_, text) = explore(rt, alloc, CROSSED, 1000, run_of(finding), &[])?;
+    same(rt, text.as_slice().starts_with(RUN_ALONE), true);
+    let count = text.iter().filter(|byte| **byte == b'\n').count();
+    same(rt, (count, is_legal(alloc, &text)?), (lines, true));
+    Ok(())
+}
+
 #[test]
-fn runs_alone(rt: HostRuntime) -> Result<(), Fail> {
-    for (finding, lines) in [(Finding::Deadlock, 10), (Finding::Stuck, 13)] {
-        let (_, text) = explore(&rt, rt.alloc(), CROSSED, 1000, run_of(finding), &[])?;
-        assert!(rt;
-            text.as_slice()
-                .starts_with(b"policy held\nlimits small\n1#1 open 0 rw ")
-        );
-        assert_eq!(rt; text.iter().filter(|byte| **byte == b'\n').count(), lines);
-        assert!(rt; is_legal(rt.alloc(), &text)?);
-    }
+fn two_runs_alone(rt: HostRuntime) -> Result<(), Fail> {
+    runs_alone(&rt, rt.alloc(), Finding::Deadlock, 10)?;
+    runs_alone(&rt, rt.alloc(), Finding::Stuck, 13)
+}
+
+/// There is no run of a finding that isn't possible.
+#[test]
+fn no_run(rt: HostRuntime) -> Result<(), Fail> {
     let (_, text) = explore(&rt, rt.alloc(), CROSSED, 1000, run_of(Finding::Lost), &[])?;
-    assert!(rt; text.is_empty());
+    same(&rt, text.is_empty(), true);
     Ok(())
 }
 
@@ -305,49 +328,54 @@ proc 3 sent 1 taken 0 answered 0 unborn
 # 3#1 never taken: process 3 was never born
 ";
 
-/// Appends the events of the least run, in which process 1 takes all that it can before process 2 does, and its end.
-fn push_long_run(text: &mut String) -> Result<(), AllocError> {
-    text.push_str("1#1 open 0 rw | 1#1 fd 0\n1#2 fork 2 | 1#2 ok\n")?;
+/// Appends the events of process 1 that lock its byte.
+fn push_first(text: &mut String) -> Result<(), AllocError> {
     for n in 3..403u32 {
         write!(text, "1#{n} setlk 0 w set 0 1 | 1#")?;
         writeln!(text, "{n} ok")?;
     }
+    Ok(())
+}
+
+/// Appends those of process 2.
+fn push_second(text: &mut String) -> Result<(), AllocError> {
     for n in 1..4u32 {
         write!(text, "2#{n} setlk 0 w set 1 1 | 2#")?;
         writeln!(text, "{n} ok")?;
     }
-    text.push_str(LONG_END)
+    Ok(())
+}
+
+/// What is printed behind this front: the events of the least run, in which process 1 takes all that it can before process 2 does, and its end.
+fn long_run(alloc: Global, front: &str) -> Result<String, AllocError> {
+    let mut text = String::from_str(alloc, front)?;
+    text.push_str("1#1 open 0 rw | 1#1 fd 0\n1#2 fork 2 | 1#2 ok\n")?;
+    push_first(&mut text)?;
+    push_second(&mut text)?;
+    text.push_str(LONG_END)?;
+    Ok(text)
 }
 
 /// A search with many situations, whose text is long.
 #[test]
 fn long(rt: HostRuntime) -> Result<(), Fail> {
-    let script = long_script(rt.alloc())?;
-    let mut due = String::from_str(rt.alloc(), LONG_TABLE)?;
-    push_long_run(&mut due)?;
-    let fail_on = [Finding::Unborn];
-    let (outcome, text) = explore(
-        &rt,
-        rt.alloc(),
-        script.as_bytes(),
-        10_000,
-        Printed::Table,
-        &fail_on,
-    )?;
-    assert!(rt; text.as_slice() == due.as_bytes());
-    assert_eq!(rt; outcome.status(), 3);
+    let alloc = rt.alloc();
+    let (script, due) = (long_script(alloc)?, long_run(alloc, LONG_TABLE)?);
+    let (script, fail_on) = (script.as_bytes(), [Finding::Unborn]);
+    let (outcome, text) = explore(&rt, alloc, script, 10_000, Printed::Table, &fail_on)?;
+    same(&rt, text.as_slice() == due.as_bytes(), true);
+    same(&rt, outcome.status(), 3);
     Ok(())
 }
 
 /// The long run alone, behind header lines.
 #[test]
 fn long_run_alone(rt: HostRuntime) -> Result<(), Fail> {
-    let script = long_script(rt.alloc())?;
-    let mut due = String::from_str(rt.alloc(), "policy held\nlimits small\n")?;
-    push_long_run(&mut due)?;
-    let printed = run_of(Finding::Unborn);
-    let (_, text) = explore(&rt, rt.alloc(), script.as_bytes(), 10_000, printed, &[])?;
-    assert!(rt; text.as_slice() == due.as_bytes());
-    assert!(rt; is_legal(rt.alloc(), &text)?);
+    let alloc = rt.alloc();
+    let due = long_run(alloc, "policy held\nlimits small\n")?;
+    let (script, printed) = (long_script(alloc)?, run_of(Finding::Unborn));
+    let (_, text) = explore(&rt, alloc, script.as_bytes(), 10_000, printed, &[])?;
+    same(&rt, text.as_slice() == due.as_bytes(), true);
+    same(&rt, is_legal(alloc, &text)?, true);
     Ok(())
 }

@@ -4,8 +4,14 @@ mod worked;
 use fd_table::{Access, FdFault, Limits, Look, Release, Tables};
 use range_core::Memory;
 use std::alloc::Global;
+use std::fmt::Debug;
 use std::process::Abort;
 use std::test::Fail;
+
+/// The two are the same.
+fn same<T: PartialEq + Debug + Drop>(rt: &impl Abort, left: T, right: T) {
+    assert_eq!(rt; left, right);
+}
 
 // Each call that may grow is made again where a growth was refused, and then it must succeed: at most one is refused in a run,
 // so these tests pass whichever it is, and a run that refuses none meets no `Memory`.
@@ -67,6 +73,11 @@ fn looks(tables: &Tables, p: u8) -> [Option<Look>; 6] {
     all
 }
 
+// Whether a growth was refused.
+fn is_refused<T>(answer: &Result<T, FdFault>) -> bool {
+    matches!(answer, Err(FdFault::Memory(_)))
+}
+
 // `open_file`, once.
 fn open_once(rt: &impl Abort, tables: &mut Tables, p: u8, file: u8) -> Result<u32, FdFault> {
     assert!(rt; tables.born(p));
@@ -77,12 +88,16 @@ fn open_once(rt: &impl Abort, tables: &mut Tables, p: u8, file: u8) -> Result<u3
 fn open(rt: &impl Abort, tables: &mut Tables, p: u8, file: u8) -> Result<u32, FdFault> {
     let before = looks(tables, p);
     let first = open_once(rt, tables, p, file);
-    if !matches!(first, Err(FdFault::Memory(_))) {
+    if !is_refused(&first) {
         return first;
     }
-    assert!(rt; looks(tables, p) == before);
+    same(rt, looks(tables, p), before);
     let second = open_once(rt, tables, p, file);
-    assert!(rt; !matches!(second, Err(FdFault::Memory(_))), "refused again");
+    same(
+        rt,
+        ("refused again", is_refused(&second)),
+        ("refused again", false),
+    );
     second
 }
 
@@ -96,13 +111,17 @@ fn fork_once(rt: &impl Abort, tables: &mut Tables, p: u8, child: u8) -> Result<(
 fn fork(rt: &impl Abort, tables: &mut Tables, p: u8, child: u8) -> Result<(), FdFault> {
     let before = looks(tables, p);
     let first = fork_once(rt, tables, p, child);
-    if !matches!(first, Err(FdFault::Memory(_))) {
+    if !is_refused(&first) {
         return first;
     }
-    assert!(rt; looks(tables, p) == before);
-    assert!(rt; !tables.born(child));
+    same(rt, looks(tables, p), before);
+    same(rt, tables.born(child), false);
     let second = fork_once(rt, tables, p, child);
-    assert!(rt; !matches!(second, Err(FdFault::Memory(_))), "refused again");
+    same(
+        rt,
+        ("refused again", is_refused(&second)),
+        ("refused again", false),
+    );
     second
 }
 
@@ -113,9 +132,19 @@ fn released(release: Release, files: &[u8], descriptions: &[u64]) -> bool {
 
 // The step is made, or looked at: whether it came out so.
 fn comes_out(rt: &impl Abort, tables: &mut Tables, step: Step) -> Result<bool, FdFault> {
+    match step {
+        Step::Opens(p, file, answer) => Ok(open(rt, tables, p, file) == answer),
+        Step::Forks(p, child, answer) => Ok(fork(rt, tables, p, child) == answer),
+        Step::DupsTo(..) | Step::DupsToNone(..) | Step::Closes(..) | Step::ClosesNone(..) => {
+            closes(tables, step)
+        }
+        other => Ok(shows(tables, other)),
+    }
+}
+
+// A step that may close a descriptor.
+fn closes(tables: &mut Tables, step: Step) -> Result<bool, FdFault> {
     Ok(match step {
-        Step::Opens(p, file, answer) => open(rt, tables, p, file) == answer,
-        Step::Dups(p, fd, answer) => tables.dup(p, fd) == answer,
         Step::DupsTo(p, fd, to, files, descriptions) => {
             let (made, release) = tables.dup2(p, fd, to)?;
             made == to && released(release, files, descriptions)
@@ -125,9 +154,16 @@ fn comes_out(rt: &impl Abort, tables: &mut Tables, step: Step) -> Result<bool, F
             released(tables.close_fd(p, fd)?, files, descriptions)
         }
         Step::ClosesNone(p, fd) => tables.close_fd(p, fd).is_err(),
+        _ => false,
+    })
+}
+
+// A step that tells all by what it answers.
+fn shows(tables: &mut Tables, step: Step) -> bool {
+    match step {
+        Step::Dups(p, fd, answer) => tables.dup(p, fd) == answer,
         Step::Seeks(p, fd, offset, answer) => tables.seek(p, fd, offset) == answer,
         Step::Resizes(p, fd, size, answer) => tables.resize(p, fd, size) == answer,
-        Step::Forks(p, child, answer) => fork(rt, tables, p, child) == answer,
         Step::Ends(p, files, descriptions) => {
             let releases = tables.end_process(p);
             releases.files() == files && releases.descriptions() == descriptions
@@ -145,7 +181,8 @@ fn comes_out(rt: &impl Abort, tables: &mut Tables, step: Step) -> Result<bool, F
             tables.look(p, fd) == Some(look)
         }
         Step::Closed(p, fd) => tables.look(p, fd).is_none(),
-    })
+        _ => false,
+    }
 }
 
 /// Each of the steps comes out as it says.
@@ -156,7 +193,8 @@ fn assert_comes_out(
     steps: &[Step],
 ) -> Result<(), FdFault> {
     for (index, step) in steps.iter().enumerate() {
-        assert!(rt; comes_out(rt, tables, *step)?, "{name}: step {index}");
+        let came_out = comes_out(rt, tables, *step)?;
+        same(rt, (name, index, came_out), (name, index, true));
     }
     Ok(())
 }
@@ -180,7 +218,7 @@ struct Run {
 /// Descriptor 0 is duplicated onto each of these in turn.
 fn dup_all(rt: &impl Abort, tables: &mut Tables, last: u32) -> Result<(), FdFault> {
     for free in 1..=last {
-        assert_eq!(rt; tables.dup(1, 0)?, free);
+        same(rt, tables.dup(1, 0)?, free);
     }
     Ok(())
 }
@@ -189,7 +227,7 @@ fn dup_all(rt: &impl Abort, tables: &mut Tables, last: u32) -> Result<(), FdFaul
 #[test]
 fn small_table_has_32_numbers(rt: HostRuntime) -> Result<(), Fail> {
     let mut tables = small_tables(&rt, rt.alloc())?;
-    assert_eq!(rt; open(&rt, &mut tables, 1, 0)?, 0);
+    same(&rt, open(&rt, &mut tables, 1, 0)?, 0);
     dup_all(&rt, &mut tables, 31)?;
     assert_comes_out(&rt, &mut tables, "a full small table", worked::FULL_SMALL)?;
     Ok(())
@@ -201,7 +239,17 @@ fn wide_table_has_256_numbers(rt: HostRuntime) -> Result<(), Fail> {
     let mut tables = wide_tables(&rt, rt.alloc())?;
     assert_comes_out(&rt, &mut tables, "a wide table", worked::WIDE)?;
     dup_all(&rt, &mut tables, 255)?;
-    assert_eq!(rt; tables.dup(1, 0), Err(FdFault::TooMany));
+    same(&rt, tables.dup(1, 0), Err(FdFault::TooMany));
+    Ok(())
+}
+
+// Twenty descriptions come, one after another.
+fn open_twenty(rt: &impl Abort, tables: &mut Tables) -> Result<(), FdFault> {
+    for fd in 0..20u32 {
+        let file = Step::Opens(1, 7, Ok(fd));
+        let refers = Step::Refers(1, fd, 7, u64::from(fd) + 1, 0, 0);
+        assert_comes_out(rt, tables, "twenty", &[file, refers])?;
+    }
     Ok(())
 }
 
@@ -209,11 +257,7 @@ fn wide_table_has_256_numbers(rt: HostRuntime) -> Result<(), Fail> {
 #[test]
 fn growth_after_growth(rt: HostRuntime) -> Result<(), Fail> {
     let mut tables = small_tables(&rt, rt.alloc())?;
-    for fd in 0..20u32 {
-        let file = Step::Opens(1, 7, Ok(fd));
-        let refers = Step::Refers(1, fd, 7, u64::from(fd) + 1, 0, 0);
-        assert_comes_out(&rt, &mut tables, "twenty", &[file, refers])?;
-    }
+    open_twenty(&rt, &mut tables)?;
     assert_comes_out(&rt, &mut tables, "after twenty", worked::AFTER_TWENTY)?;
     Ok(())
 }

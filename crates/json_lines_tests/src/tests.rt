@@ -1,15 +1,14 @@
 //! The objects of lines, each written by hand from the table of kinds.
-ghost use Rattle.std.specs.Prelude.{◌<◌};
-
 use json_lines::Objects;
 use line_writer::LineWriter;
-use std::alloc::Global;
+use std::alloc::{AllocError, Global};
+use std::fmt::Debug;
 use std::io::Write;
 use std::process::Abort;
 use std::test::Fail;
 
 /// A line of each kind, and its object: members in the order of their names.
-const ROWS: [(&str, &str); 26] = [
+const ROWS: &[(&str, &str)] = &[
     (
         "1#4 setlk 0 u set 5 4 | 1#4 ok | 2#1 ok",
         "{\"kind\":\"event\",\"notes\":[{\"answer\":\"ok\",\"number\":4,\"process\":1},{\"answer\":\"ok\",\"number\":1,\"process\":2}],\
@@ -116,31 +115,42 @@ const ROWS: [(&str, &str); 26] = [
     ),
 ];
 
-/// What the writer makes of these bytes, which it is given so many at a time.
-fn written(alloc: Global, bytes: &[u8], at_once: usize) -> Result<Vec<u8>, Fail>
-    requires { 0 < at_once }
-{
+/// The two are the same.
+fn same<T: PartialEq + Debug + Drop>(rt: &impl Abort, left: T, right: T) {
+    assert_eq!(rt; left, right);
+}
+
+/// What the writer makes of these bytes, which it is given so many at a time, and at least one.
+fn written(alloc: Global, bytes: &[u8], at_once: usize) -> Result<Vec<u8>, Fail> {
     let mut writer = LineWriter::new(alloc, Objects::new(alloc, Vec::new(alloc)));
-    for part in bytes.chunks(at_once) {
+    for part in bytes.chunks(at_once.max(1)) {
         writer.write_all(part)?;
     }
     Ok(writer.into_inner().into_inner())
 }
 
-/// Each line becomes its object, whether it comes at once or byte by byte.
+/// The bytes of a text, and the end of its line.
+fn whole_line(alloc: Global, text: &str) -> Result<Vec<u8>, AllocError> {
+    let mut line = Vec::from_slice(alloc, text.as_bytes())?;
+    line.push(b'\n')?;
+    Ok(line)
+}
+
+/// The line becomes its object, whether it comes at once or byte by byte.
+fn becomes(rt: &impl Abort, alloc: Global, line: &str, object: &str) -> Result<(), Fail> {
+    let (plain, expected) = (whole_line(alloc, line)?, whole_line(alloc, object)?);
+    for at_once in [1, plain.len()] {
+        let told = written(alloc, &plain, at_once)?;
+        same(rt, (line, told.as_slice()), (line, expected.as_slice()));
+    }
+    Ok(())
+}
+
+/// Each line becomes its object.
 #[test]
 fn each_kind(rt: HostRuntime) -> Result<(), Fail> {
     for (line, object) in ROWS {
-        let mut plain = Vec::from_slice(rt.alloc(), line.as_bytes())?;
-        plain.push(b'\n')?;
-        let mut expected = Vec::from_slice(rt.alloc(), object.as_bytes())?;
-        expected.push(b'\n')?;
-        assert_eq!(rt; written(rt.alloc(), &plain, 1)?, expected, "{line}");
-        assert_eq!(rt;
-            written(rt.alloc(), &plain, plain.len())?,
-            expected,
-            "{line}"
-        );
+        becomes(&rt, rt.alloc(), *line, *object)?;
     }
     Ok(())
 }
@@ -151,7 +161,7 @@ fn lines_in_order(rt: HostRuntime) -> Result<(), Fail> {
     let told = written(rt.alloc(), b"ends 1\npolicy held\nlock 0", 5)?;
     let objects: &[u8] =
         b"{\"count\":1,\"kind\":\"ends\",\"text\":\"ends 1\"}\n{\"kind\":\"header\",\"text\":\"policy held\"}\n";
-    assert_eq!(rt; told.as_slice(), objects);
+    same(&rt, told.as_slice(), objects);
     Ok(())
 }
 
@@ -161,10 +171,8 @@ fn a_line_of_a_million_bytes(rt: HostRuntime) -> Result<(), Fail> {
     let mut line = vec![in rt.alloc(); b'x'; 1_000_000]?;
     line.push(b'\n')?;
     let told = written(rt.alloc(), &line, line.len())?;
-    assert_eq!(rt;
-        told.len(),
-        1_000_000 + "{\"kind\":\"line\",\"text\":\"\"}\n".len()
-    );
+    let around = "{\"kind\":\"line\",\"text\":\"\"}\n".len();
+    same(&rt, told.len(), 1_000_000 + around);
     Ok(())
 }
 
@@ -172,6 +180,6 @@ fn a_line_of_a_million_bytes(rt: HostRuntime) -> Result<(), Fail> {
 #[test]
 fn no_text(rt: HostRuntime) {
     let mut writer = LineWriter::new(rt.alloc(), Objects::new(rt.alloc(), Vec::new(rt.alloc())));
-    assert!(rt; writer.write_all(b"\xff\n").is_err());
-    assert_eq!(rt; writer.refused(), None);
+    same(&rt, writer.write_all(b"\xff\n").is_err(), true);
+    same(&rt, writer.refused(), None);
 }

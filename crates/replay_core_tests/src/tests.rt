@@ -2,10 +2,16 @@
 use lock_manager::Reply;
 use replay_core::{Answer, RunFault, Watch, replay_threads};
 use script_core::parse;
+use std::fmt::Debug;
 use std::process::Abort;
 use std::sync::atomic::{AtomicBool, AtomicU64, Ordering};
 use std::test::Fail;
 use std::thread;
+
+/// The two are the same.
+fn same<T: PartialEq + Debug + Drop>(rt: &impl Abort, left: T, right: T) {
+    assert_eq!(rt; left, right);
+}
 
 /// How often a thread looks before it gives up.
 const TURNS: u32 = 1000000;
@@ -70,12 +76,12 @@ fn two_processes_meet_at_their_watch(rt: HostRuntime) -> Result<(), Fail> {
         second: Side::new(),
     };
     let report = replay_threads(&rt, alloc, &script, &meeting)?;
-    assert!(rt; meeting.first.met.load(Ordering::SeqCst));
-    assert!(rt; meeting.second.met.load(Ordering::SeqCst));
+    same(&rt, meeting.first.met.load(Ordering::SeqCst), true);
+    same(&rt, meeting.second.met.load(Ordering::SeqCst), true);
     let first: &[Answer] = &[(1, Reply::Ok, 1)];
     let second: &[Answer] = &[(1, Reply::Fd(0), 2)];
-    assert!(rt; report.collected[0].as_slice() == first);
-    assert!(rt; report.collected[1].as_slice() == second);
+    same(&rt, report.collected[0].as_slice(), first);
+    same(&rt, report.collected[1].as_slice(), second);
     Ok(())
 }
 
@@ -123,8 +129,8 @@ fn each_post_is_told_once(rt: HostRuntime) -> Result<(), Fail> {
         astray: AtomicBool::new(false),
     };
     let _report = replay_threads(&rt, alloc, &script, &counting)?;
-    assert!(rt; !counting.astray.load(Ordering::SeqCst));
-    assert!(rt; counting.first.load(Ordering::SeqCst) == 6);
-    assert!(rt; counting.second.load(Ordering::SeqCst) == 2);
+    same(&rt, counting.astray.load(Ordering::SeqCst), false);
+    same(&rt, counting.first.load(Ordering::SeqCst), 6);
+    same(&rt, counting.second.load(Ordering::SeqCst), 2);
     Ok(())
 }
