@@ -797,13 +797,18 @@ static void nothing_is_left_of_a_refusal(void) {
 }
 
 /* Files and owners that hold nothing take no memory, however many come and go: all that they leave is what one of each leaves, a block
- * of each map and list that was used once, and a few of the tree of a file's waits. */
+ * of each map and list that was used once, and a few of the tree of a file's waits; and a file that had a second owner keeps two
+ * more. */
 static void nothing_is_left(void) {
-    enum { ONE = 1 };
-    const long before = blocks;
-    CHECK(taken_beside_a_keeper(COMERS) <= taken_beside_a_keeper(ONE));
-    CHECK(taken_after_files(COMERS) <= taken_after_files(ONE));
-    CHECK(taken_after_gone_files(COMERS) <= taken_after_gone_files(ONE));
+    enum { ONE = 1, USED_ONCE = 9, OF_SECOND_OWNER = 2 };
+    const long before = blocks, kept = taken_beside_a_keeper(0), made = taken_after_files(0);
+    const long of_owner = taken_beside_a_keeper(ONE), of_file = taken_after_files(ONE), of_gone_file = taken_after_gone_files(ONE);
+    CHECK(of_owner <= kept + USED_ONCE + OF_SECOND_OWNER);
+    CHECK(of_file <= made + USED_ONCE);
+    CHECK(of_gone_file <= made + USED_ONCE);
+    CHECK(taken_beside_a_keeper(COMERS) <= of_owner);
+    CHECK(taken_after_files(COMERS) <= of_file);
+    CHECK(taken_after_gone_files(COMERS) <= of_gone_file);
     CHECK(blocks == before);
 }
 
