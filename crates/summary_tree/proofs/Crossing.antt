@@ -15,7 +15,7 @@ module _ (T S : RattleType) (g : Ghosts S.Denot T.Denot) (send-T : IsSend T) (se
   block_send = search (sendable, Vec-send) depth 20
 
   subtree_send : IsSend (subtree.the_row T S g)
-  subtree_send = send-Subtree T S g Box-send block_send (search sendable) (search sendable)
+  subtree_send = send-Subtree T S g Box-send (search sendable) (search sendable) block_send
 
   node_send : IsSend (node.the_row T S g)
   node_send = search (sendable, block_send, subtree_send) depth 20

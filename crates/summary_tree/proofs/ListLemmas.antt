@@ -1,6 +1,6 @@
 -- Facts on lists and tests.
-use Rattle.std.proofs.Common.{◌≡◌, suc, ◌-◌, ◌<◌, Bool, true, false, cond, ◌||◌, Option, Some, None, List, [], ◌∷◌, ◌++◌, length, slice_index_or, refl, ap, ◌∙◌, arith}
-use Rattle.std.specs.List.{find, list_any}
+use Rattle.std.proofs.Common.{◌≡◌, ◌≢◌, suc, ◌-◌, ◌<◌, Bool, true, false, cond, ◌||◌, Option, Some, None, List, [], ◌∷◌, ◌++◌, length, slice_index_or, refl, ap, ◌∙◌, arith}
+use Rattle.std.specs.List.{find, last_or, list_any, slice_get}
 use Rattle.std.specs.Option.{option_or}
 use Rattle.std.proofs.lemmas.List.{length-append}
 use Rattle.std.proofs.lemmas.List.Folds.{find-append}
@@ -74,3 +74,47 @@ stays_at false y ys rest found h f = ap (λ zs. y ∷ zs) (f h)
 pub all_stay : {X : Type 0} (p : X → Bool) (xs : List X) → find p xs ≡ None → without_first p xs ≡ xs
 all_stay p [] h = refl
 all_stay p (y ∷ ys) h = stays_at (p y) y ys (without_first p ys) (find p ys) h (all_stay p ys)
+
+-- the item that stands at the end is the last
+pub last_there : {X : Type 0} (o : Option X) (x : X) (xs : List X) → slice_get (x ∷ xs) (length xs) ≡ last_or o (x ∷ xs)
+last_there o x [] = refl
+last_there o x (y ∷ xs) = last_there (Some x) y xs
+
+-- nothing stands there where there is no item
+pub last_got : {X : Type 0} (xs : List X) → slice_get xs (length xs - 1) ≡ last_or None xs
+last_got [] = refl
+last_got (x ∷ xs) =
+    let n : suc (length xs) - 1 ≡ length xs = omega arith in
+    ap (λ i. slice_get (x ∷ xs) i) n ∙ last_there None x xs
+
+last_append : {X : Type 0} (o : Option X) (xs ys : List X) → last_or o (xs ++ ys) ≡ last_or (last_or o xs) ys
+last_append o [] ys = refl
+last_append o (x ∷ xs) ys = last_append (Some x) xs ys
+
+-- the last of some items, whatever would be told of none
+last_of_some : {X : Type 0} (o : Option X) (ys : List X) (y : X) → last_or None ys ≡ Some y → last_or o ys ≡ Some y
+last_of_some o [] y h = absurd (let no : None ≡ Some y = h in cc)
+last_of_some o (x ∷ ys) y h = h
+
+some_last : {X : Type 0} (x : X) (ys : List X) → last_or (Some x) ys ≢ None
+some_last x [] h = absurd (let no : Some x ≡ None = h in cc)
+some_last x (y ∷ ys) h = some_last y ys h
+
+-- where there is no last item, there is none
+no_last : {X : Type 0} (ys : List X) → last_or None ys ≡ None → ys ≡ []
+no_last [] h = refl
+no_last (x ∷ ys) h = absurd (some_last x ys h)
+
+-- of a list xs that is split into l, b and r: the last stands in r
+pub last_right : {X : Type 0} (xs l b r : List X) (y : X) → xs ≡ l ++ (b ++ r) → last_or None r ≡ Some y → last_or None xs ≡ Some y
+last_right xs l b r y is h =
+    ap (last_or None) is ∙ last_append None l (b ++ r) ∙ last_append (last_or None l) b r ∙ last_of_some (last_or (last_or None l) b) r y h
+
+last_any : {X : Type 0} (o : Option X) (ys : List X) → 0 < length ys → last_or o ys ≡ last_or None ys
+last_any o [] h = absurd (omega arith)
+last_any o (x ∷ ys) h = refl
+
+-- it stands in b where r has none
+pub last_here : {X : Type 0} (xs l b r : List X) → xs ≡ l ++ (b ++ r) → last_or None r ≡ None → 0 < length b → last_or None xs ≡ last_or None b
+last_here xs l b r is h some =
+    ap (last_or None) is ∙ last_append None l (b ++ r) ∙ last_append (last_or None l) b r ∙ ap (last_or (last_or (last_or None l) b)) (no_last r h) ∙ last_any (last_or None l) b some

@@ -1,9 +1,9 @@
 -- What is put into a list that is split in two, and what is taken out of it.
-use Rattle.std.proofs.Common.{append-nil, ◌≡◌, ℕ, zero, suc, ◌+◌, ◌-◌, ◌<◌, ◌≤◌, Bool, true, false, not, cond, ◌||◌, Some, None, List, [], ◌∷◌, ◌++◌, length, slice_index_or, take, drop, refl, sym, ap, ◌∙◌, arith}
+use Rattle.std.proofs.Common.{append-nil, ◌≡◌, ℕ, zero, suc, ◌+◌, ◌-◌, ◌<◌, ◌≤◌, Bool, true, false, not, cond, ◌||◌, Some, None, List, [], ◌∷◌, ◌++◌, length, slice_index_or, slice_set, take, drop, refl, sym, ap, ◌∙◌, arith}
 use Rattle.std.specs.List.{find, list_any, position_or_len, insert, remove, AllByRecursion}
 use Rattle.std.proofs.lemmas.List.{take-append-drop}
 use Rattle.std.proofs.lemmas.List.Sums.{prefix_len-le-length}
-use Rattle.summary_tree.specs.Cuts.{IsCutBy, first_passes, put_before, without_first, before}
+use Rattle.summary_tree.specs.Cuts.{IsCutBy, first_passes, put_before, with_first, without_first, before}
 
 -- no item passes
 abbrev pub NonePasses : {X : Type 0} → (X → Bool) → List X → Type 0
@@ -217,3 +217,40 @@ without_left p xs l b r is a = ap (without_first p) is ∙ without_among p l (b 
 -- from the midst
 pub without_middle : {X : Type 0} (p : X → Bool) (xs l b r : List X) → xs ≡ l ++ (b ++ r) → NonePasses p l → list_any p b ≡ true → without_first p xs ≡ l ++ (without_first p b ++ r)
 without_middle p xs l b r is n a = ap (without_first p) is ∙ (without_right p l (b ++ r) n ∙ ap (λ ys. l ++ ys) (without_among p b r a))
+
+with_at : {X : Type 0} (p : X → Bool) (x y : X) (ys : List X) (b : Bool) (n : ℕ) → slice_set ys n x ≡ with_first p x ys → slice_set (y ∷ ys) (cond (not b) (1 + n) 0) x ≡ cond b (x ∷ ys) (y ∷ with_first p x ys)
+with_at p x y ys true n h = refl
+with_at p x y ys false n h =
+    let m : 1 + n ≡ suc n = omega arith in
+    ap (λ k. slice_set (y ∷ ys) k x) m ∙ ap (λ zs. y ∷ zs) h
+
+-- another item goes where the first that passes stands
+pub with_at_place : {X : Type 0} (p : X → Bool) (x : X) (ys : List X) → slice_set ys (position_or_len p ys) x ≡ with_first p x ys
+with_at_place p x [] = refl
+with_at_place p x (y ∷ ys) = with_at p x y ys (p y) (position_or_len p ys) (with_at_place p x ys)
+
+-- where none of l passes, behind it
+pub with_right : {X : Type 0} (p : X → Bool) (x : X) (l m : List X) → NonePasses p l → with_first p x (l ++ m) ≡ l ++ with_first p x m
+with_right p x [] m h = refl
+with_right p x (z ∷ l) m h = ap (λ b. cond b (x ∷ (l ++ m)) (z ∷ with_first p x (l ++ m))) h.0 ∙ ap (λ ys. z ∷ ys) (with_right p x l m h.1)
+
+with_among_at : {X : Type 0} (p : X → Bool) (x z : X) (l m : List X) (b : Bool) → (b || list_any p l) ≡ true → (list_any p l ≡ true → with_first p x (l ++ m) ≡ with_first p x l ++ m) → cond b (x ∷ (l ++ m)) (z ∷ with_first p x (l ++ m)) ≡ cond b (x ∷ l) (z ∷ with_first p x l) ++ m
+with_among_at p x z l m true h f = refl
+with_among_at p x z l m false h f = ap (λ ys. z ∷ ys) (f h)
+
+-- where some item of l passes, into l
+pub with_among : {X : Type 0} (p : X → Bool) (x : X) (l m : List X) → list_any p l ≡ true → with_first p x (l ++ m) ≡ with_first p x l ++ m
+with_among p x [] m h = absurd (cc)
+with_among p x (z ∷ l) m h = with_among_at p x z l m (p z) h (with_among p x l m)
+
+-- of a list xs in three parts: another item goes into the last part
+pub with_last : {X : Type 0} (p : X → Bool) (x : X) (xs l b r : List X) → xs ≡ l ++ (b ++ r) → NonePasses p l → NonePasses p b → with_first p x xs ≡ l ++ (b ++ with_first p x r)
+with_last p x xs l b r is n m = ap (with_first p x) is ∙ (with_right p x l (b ++ r) n ∙ ap (λ ys. l ++ ys) (with_right p x b r m))
+
+-- into the first part
+pub with_left : {X : Type 0} (p : X → Bool) (x : X) (xs l b r : List X) → xs ≡ l ++ (b ++ r) → list_any p l ≡ true → with_first p x xs ≡ with_first p x l ++ (b ++ r)
+with_left p x xs l b r is a = ap (with_first p x) is ∙ with_among p x l (b ++ r) a
+
+-- into the midst
+pub with_middle : {X : Type 0} (p : X → Bool) (x : X) (xs l b r : List X) → xs ≡ l ++ (b ++ r) → NonePasses p l → list_any p b ≡ true → with_first p x xs ≡ l ++ (with_first p x b ++ r)
+with_middle p x xs l b r is n a = ap (with_first p x) is ∙ (with_right p x l (b ++ r) n ∙ ap (λ ys. l ++ ys) (with_among p x b r a))

@@ -28,6 +28,11 @@ abbrev pub without_first : {X : Type 0} → (X → Bool) → List X → List X
 without_first p [] = []
 without_first p (y ∷ ys) = cond (p y) ys (y ∷ without_first p ys)
 
+-- the items with another one in place of the first that passes
+abbrev pub with_first : {X : Type 0} → (X → Bool) → X → List X → List X
+with_first p x [] = []
+with_first p x (y ∷ ys) = cond (p y) (x ∷ ys) (y ∷ with_first p x ys)
+
 -- the items before the first that passes
 abbrev pub before : {X : Type 0} → (X → Bool) → List X → List X
 before p [] = []

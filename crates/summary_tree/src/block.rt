@@ -1,7 +1,7 @@
 //! Items that lie side by side.
-ghost use Rattle.std.specs.Prelude.{◌≡◌, ◌+◌, ◌-◌, ◌<◌, ◌≤◌, [], ◌∷◌, ◌++◌, length, take, drop, true, Some, IfOk, slice_index_or, List};
-ghost use Rattle.std.specs.List.{find, position_or_len, insert, remove};
-ghost use Rattle.summary_tree.specs.Cuts.{before, both, first_passes, last_passes, put_before, without_first};
+ghost use Rattle.std.specs.Prelude.{◌≡◌, ◌+◌, ◌-◌, ◌<◌, ◌≤◌, [], ◌∷◌, ◌++◌, length, take, drop, true, None, Some, IfOk, slice_index_or, List};
+ghost use Rattle.std.specs.List.{find, last_or, position_or_len, insert, remove};
+ghost use Rattle.summary_tree.specs.Cuts.{before, both, first_passes, last_passes, put_before, with_first, without_first};
 
 use crate::{BLOCK, Cut, PART, Query, Summary, Walk};
 use std::alloc::{AllocError, Global};
@@ -99,6 +99,13 @@ impl<T: Copy, S: Summary<T> + Copy> Block<T, S> {
             }
         }
         None
+    }
+
+    /// The last item.
+    pub(crate) fn last(&self) -> Option<T>
+        ensures { result ≡ last_or None self.now }
+    {
+        self.items.last().copied()
     }
 
     /// Gathers from all items.
@@ -243,6 +250,20 @@ impl<T: Copy, S: Summary<T> + Copy> Block<T, S> {
     {
         let place = self.place_of(cut);
         self.remove(place)
+    }
+
+    /// Puts another item in place of the first that stands at a place or behind it, where one does, and hands that one out.
+    pub(crate) fn replace<C: Cut<T>>(&mut self, cut: &C, item: T) -> T
+        requires { last_passes (C.is_behind cut.now) self.old ≡ true }
+        ensures item { Some result ≡ find (C.is_behind cut.now) self.old }
+        ensures items { self.new ≡ with_first (C.is_behind cut.now) item self.old }
+        ensures count { length self.new ≡ length self.old }
+    {
+        let place = self.place_of(cut);
+        let replaced = self.items[place];
+        self.items[place] = item;
+        self.summary = summary_of(&self.items);
+        replaced
     }
 
     /// Takes out all items.

@@ -1,6 +1,6 @@
 //! The nodes, and what is asked of them.
-ghost use Rattle.std.specs.Prelude.{◌≡◌, ◌+◌, ◌*◌, ◌<◌, ◌≤◌, ◌^◌, [], ◌∷◌, ◌++◌, List, length};
-ghost use Rattle.std.specs.List.{find};
+ghost use Rattle.std.specs.Prelude.{◌≡◌, ◌+◌, ◌*◌, ◌<◌, ◌≤◌, ◌^◌, [], ◌∷◌, ◌++◌, List, None, length};
+ghost use Rattle.std.specs.List.{find, last_or};
 ghost use Rattle.summary_tree.specs.Cuts.{before, both, IsCutBy};
 
 mod balancing;
@@ -31,12 +31,12 @@ enum Link<T: Copy, S: Summary<T> + Copy> {
 #[derive(Drop)]
 pub(crate) struct Node<T: Copy, S: Summary<T> + Copy> {
     pub(crate) left: Subtree<T, S>,
-    pub(crate) block: Block<T, S>,
+    pub(crate) right: Subtree<T, S>,
+    pub(crate) summary: S,
     pub(crate) count: u64,
     pub(crate) nodes: u64,
     pub(crate) excess: u64,
-    pub(crate) summary: S,
-    pub(crate) right: Subtree<T, S>,
+    pub(crate) block: Block<T, S>,
 }
 
 impl<T: Copy, S: Summary<T> + Copy> Model for Subtree<T, S> {
@@ -195,6 +195,22 @@ impl<T: Copy, S: Summary<T> + Copy> Subtree<T, S> {
                     return Some(found);
                 }
                 node.block.first_from(cut)
+            }
+        }
+    }
+
+    /// The last item.
+    pub(crate) fn last(&self) -> Option<T>
+        ensures { result ≡ last_or None self.now.items }
+    {
+        match &self.link {
+            Link::Empty => None,
+            Link::Fork(node) => {
+                let node: &Node<T, S> = node;
+                if let Some(last) = node.right.last() {
+                    return Some(last);
+                }
+                node.block.last()
             }
         }
     }

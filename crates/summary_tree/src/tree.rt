@@ -1,7 +1,7 @@
 //! The tree as others see it.
-ghost use Rattle.std.specs.Prelude.{◌≡◌, ◌+◌, ◌*◌, ◌<◌, ◌≤◌, ◌⊎◌, ◌^◌, [], ◌++◌, List, length, IsOk, OnOk, OnErr};
-ghost use Rattle.std.specs.List.{find};
-ghost use Rattle.summary_tree.specs.Cuts.{before, both, IsCutBy, put_before, without_first};
+ghost use Rattle.std.specs.Prelude.{◌≡◌, ◌+◌, ◌*◌, ◌<◌, ◌≤◌, ◌⊎◌, ◌^◌, [], ◌++◌, List, None, length, IsOk, OnOk, OnErr};
+ghost use Rattle.std.specs.List.{find, last_or};
+ghost use Rattle.summary_tree.specs.Cuts.{before, both, IsCutBy, put_before, with_first, without_first};
 
 use crate::places::Places;
 use crate::subtree::{Node, Subtree, of_one};
@@ -88,6 +88,13 @@ impl<T: Copy, S: Summary<T> + Copy> Tree<T, S> {
         self.items.first_from(cut)
     }
 
+    /// The last item.
+    pub fn last(&self) -> Option<T>
+        ensures { result ≡ last_or None self.now.items }
+    {
+        self.items.last()
+    }
+
     /// The first item from a place on that is looked for.
     pub fn first_where_from<C: Cut<T>, Q: Query<T, S>>(&self, cut: &C, query: &Q) -> Option<T>
         requires { IsCutBy (C.is_behind cut.now) self.now.items }
@@ -159,6 +166,17 @@ impl<T: Copy, S: Summary<T> + Copy> Tree<T, S> {
             return self.take_only(cut);
         }
         self.items.take(cut)
+    }
+
+    /// Puts another item in place of the first that stands at a place or behind it, and hands that one out; the room stays. It
+    /// takes no memory.
+    pub fn replace<C: Cut<T>>(&mut self, cut: &C, item: T) -> Option<T>
+        requires { IsCutBy (C.is_behind cut.now) self.old.items }
+        ensures item { result ≡ find (C.is_behind cut.now) self.old.items }
+        ensures items { self.new.items ≡ with_first (C.is_behind cut.now) item self.old.items }
+        ensures room { self.new.room ≡ self.old.room }
+    {
+        self.items.replace(cut, item)
     }
 
     /// Takes out the only item, if it stands at a place or behind it, and keeps its node.

@@ -2,7 +2,7 @@
 ghost use Rattle.std.specs.Prelude.{◌≡◌, ◌+◌, ◌-◌, ◌*◌, ◌<◌, ◌≤◌, ◌^◌, [], ◌∷◌, ◌++◌, IfNone, length};
 ghost use Rattle.std.specs.List.{find};
 ghost use Rattle.summary_tree.specs.Balance.{IsBalanced, IsOneMoreAtMost};
-ghost use Rattle.summary_tree.specs.Cuts.{IsCutBy, put_before, without_first};
+ghost use Rattle.summary_tree.specs.Cuts.{IsCutBy, put_before, with_first, without_first};
 ghost use Rattle.summary_tree.specs.Nodes.{excess_of, items_of, nodes_of};
 ghost use Rattle.summary_tree.specs.Sides.{IsSideOf};
 
@@ -76,6 +76,35 @@ impl<T: Copy, S: Summary<T> + Copy> Subtree<T, S> {
                 let taken = node.block.take(cut);
                 *self = without_block(node);
                 Some(taken)
+            }
+        }
+    }
+
+    /// Puts another item in place of the first that stands at a place or behind it, and hands that one out. It takes no memory.
+    pub(crate) fn replace<C: Cut<T>>(&mut self, cut: &C, item: T) -> Option<T>
+        requires { IsCutBy (C.is_behind cut.now) self.old.items }
+        ensures item { result ≡ find (C.is_behind cut.now) self.old.items }
+        ensures items { self.new.items ≡ with_first (C.is_behind cut.now) item self.old.items }
+        ensures count { length self.new.items ≡ length self.old.items }
+        ensures nodes { self.new.nodes ≡ self.old.nodes }
+        ensures excess { self.new.excess ≡ self.old.excess }
+        ensures none { IfNone result (self.new ≡ self.old) }
+    {
+        match mem::replace(&mut self.link, Link::Empty) {
+            Link::Empty => None,
+            Link::Fork(mut node) => {
+                if !node.block.ends_behind(cut) {
+                    let replaced = node.right.replace(cut, item);
+                    *self = whole(node);
+                    return replaced;
+                }
+                if let Some(replaced) = node.left.replace(cut, item) {
+                    *self = whole(node);
+                    return Some(replaced);
+                }
+                let replaced = node.block.replace(cut, item);
+                *self = whole(node);
+                Some(replaced)
             }
         }
     }
