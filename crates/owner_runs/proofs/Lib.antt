@@ -1,0 +1,12 @@
+pub mod ChangeLemmas
+pub mod Crossing
+pub mod CutLemmas
+pub mod ExtentLemmas
+pub mod FindLemmas
+pub mod ForCallers
+pub mod ModeLemmas
+pub mod OrderLemmas
+pub mod PieceLemmas
+pub mod RunLemmas
+pub mod TouchingLemmas
+pub mod Views

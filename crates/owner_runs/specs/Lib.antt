@@ -1,0 +1,4 @@
+pub mod Iterating
+pub mod Lists
+pub mod Tests
+pub mod Trees

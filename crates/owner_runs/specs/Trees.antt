@@ -1,0 +1,85 @@
+-- Runs that are found, and what a change makes of the modes.
+use Rattle.std.specs.Prelude.{◌≡◌, ◌≢◌, ℕ, ◌+◌, ◌<◌, ◌≤◌, ⊤, Option, None, Some, List, [], ◌∷◌, All, AllPairs, Any}
+use Rattle.std.specs.List.{AllByRecursion}
+use Rattle.range_core.specs.declared.Mode.{Mode}
+use Rattle.range_core.specs.declared.Span.{Span}
+use Rattle.range_core.specs.Ranges.{IsApart, IsByteRange, IsConstant, IsRun, Modes}
+use Rattle.range_core.specs.Replacing.{Touches}
+
+-- each run has a byte and lies within a file, and is apart from those behind it
+abbrev pub AreOrdered : List (Mode × Span) → Type 0
+AreOrdered [] = ⊤
+AreOrdered (run ∷ runs) = IsByteRange run.1 × AllByRecursion (IsApart run) runs × AreOrdered runs
+
+-- each byte of the run has its mode, and neither of the two right beside it has
+pub record IsWhole (modes : Modes) (run : Mode × Span) : Type 0 where
+  pub constant : IsConstant modes run.1 run.0
+  pub before : (byte : ℕ) → byte + 1 ≡ run.1.first → modes byte ≢ Some run.0
+  pub behind : modes (run.1.last + 1) ≢ Some run.0
+
+-- the run is the first that ends at the byte or behind it
+pub record IsNextRun (modes : Modes) (byte : ℕ) (run : Mode × Span) : Type 0 where
+  pub range : IsByteRange run.1
+  pub whole : IsWhole modes run
+  pub reaches : byte ≤ run.1.last
+  pub free : (other : ℕ) → byte ≤ other → other < run.1.first → modes other ≡ None
+
+-- the piece is of the run's mode, has a byte, and lies within the run
+pub record IsPieceOf (run piece : Mode × Span) : Type 0 where
+  pub mode : piece.0 ≡ run.0
+  pub some : piece.1.first ≤ piece.1.last
+  pub first : run.1.first ≤ piece.1.first
+  pub last : piece.1.last ≤ run.1.last
+
+-- no byte of the range has a mode, and none right beside it has this one
+pub record IsGapFor (modes : Modes) (mode : Mode) (span : Span) : Type 0 where
+  pub free : (byte : ℕ) → span.first ≤ byte → byte ≤ span.last → modes byte ≡ None
+  pub before : (byte : ℕ) → byte + 1 ≡ span.first → modes byte ≢ Some mode
+  pub behind : modes (span.last + 1) ≢ Some mode
+
+-- the new modes are this one on just the range, and the old ones elsewhere
+pub record IsSetOn (old new : Modes) (span : Span) (mode : Option Mode) : Type 0 where
+  pub inside : (byte : ℕ) → span.first ≤ byte → byte ≤ span.last → new byte ≡ mode
+  pub below : (byte : ℕ) → byte < span.first → new byte ≡ old byte
+  pub above : (byte : ℕ) → span.last < byte → new byte ≡ old byte
+
+-- of the run just the piece stays, and elsewhere nothing changes
+pub record IsShortened (old new : Modes) (run piece : Span) : Type 0 where
+  pub before : (byte : ℕ) → run.first ≤ byte → byte < piece.first → new byte ≡ None
+  pub within : (byte : ℕ) → piece.first ≤ byte → byte ≤ piece.last → new byte ≡ old byte
+  pub behind : (byte : ℕ) → piece.last < byte → byte ≤ run.last → new byte ≡ None
+  pub below : (byte : ℕ) → byte < run.first → new byte ≡ old byte
+  pub above : (byte : ℕ) → run.last < byte → new byte ≡ old byte
+
+-- the bytes of the run that lie in the range have no mode, and elsewhere nothing changes
+pub record IsCutOut (old new : Modes) (run span : Span) : Type 0 where
+  pub both : (byte : ℕ) → span.first ≤ byte → byte ≤ span.last → run.first ≤ byte → byte ≤ run.last → new byte ≡ None
+  pub below : (byte : ℕ) → byte < span.first → new byte ≡ old byte
+  pub above : (byte : ℕ) → span.last < byte → new byte ≡ old byte
+  pub before : (byte : ℕ) → byte < run.first → new byte ≡ old byte
+  pub behind : (byte : ℕ) → run.last < byte → new byte ≡ old byte
+
+-- the bytes from the one up to the other, which had the mode, have none any more, and the one before them doesn't have it
+pub record IsFreedBefore (old new : Modes) (mode : Mode) (from upto : ℕ) : Type 0 where
+  pub ordered : from ≤ upto
+  pub had : (byte : ℕ) → from ≤ byte → byte < upto → old byte ≡ Some mode
+  pub freed : (byte : ℕ) → from ≤ byte → byte < upto → new byte ≡ None
+  pub below : (byte : ℕ) → byte < from → new byte ≡ old byte
+  pub above : (byte : ℕ) → upto ≤ byte → new byte ≡ old byte
+  pub ends : (byte : ℕ) → byte + 1 ≡ from → new byte ≢ Some mode
+
+-- the bytes behind the one up to the other, which had the mode, have none any more, and the one behind them doesn't have it
+pub record IsFreedBehind (old new : Modes) (mode : Mode) (last to : ℕ) : Type 0 where
+  pub ordered : last ≤ to
+  pub had : (byte : ℕ) → last < byte → byte ≤ to → old byte ≡ Some mode
+  pub freed : (byte : ℕ) → last < byte → byte ≤ to → new byte ≡ None
+  pub below : (byte : ℕ) → byte ≤ last → new byte ≡ old byte
+  pub above : (byte : ℕ) → to < byte → new byte ≡ old byte
+  pub ends : new (to + 1) ≢ Some mode
+
+-- these are the runs that share a byte with the range or lie right beside it, from the first byte on
+pub record AreRunsTouching (modes : Modes) (span : Span) (runs : List (Mode × Span)) : Type 0 where
+  pub rising : AllPairs (λ r s. r.1.last < s.1.first) runs
+  pub each : All (λ r. IsRun modes r.1.first r.0 r.1) runs
+  pub touch : All (Touches span) runs
+  pub every : (mode : Mode) (run : Span) → IsRun modes run.first mode run → Touches span (mode, run) → Any (λ r. (r.0 ≡ mode) × (r.1 ≡ run)) runs

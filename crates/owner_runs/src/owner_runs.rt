@@ -1,0 +1,283 @@
+//! A mode for each byte of a file, as a list of runs or as a tree of them.
+ghost use Rattle.std.specs.Prelude.{ℕ, ◌≡◌, ◌≢◌, ◌+◌, ◌<◌, ◌≤◌, ◌↔◌, All, AllPairs, List, None, Some, IfNone, IfSome, IsFalse, IsOk, IsTrue, OnErr, OnOk, length};
+ghost use Rattle.range_core.specs.declared.Mode.{Mode};
+ghost use Rattle.range_core.specs.declared.Span.{Span};
+ghost use Rattle.range_core.specs.Changes.{mode_in, SetsMode, modes_of as list_modes_of, room_of as list_room_of};
+ghost use Rattle.range_core.specs.Ranges.{AreRuns, Covers, HeldConflicts, IsByteRange, IsFirstHit, IsRun, Modes, SplitsRun};
+ghost use Rattle.owner_runs.specs.Lists.{AreTouched, modes_of, room_of, SameRuns};
+ghost use Rattle.owner_runs.specs.Trees.{AreRunsTouching};
+
+use crate::runs::Runs;
+use crate::set_tree::SetTree;
+use range_core::{Memory, Mode, RangeList, Span};
+use std::alloc::Global;
+
+/// How many runs a list has at most that isn't made a tree by the next set or reservation.
+const FEW_RUNS: usize = 64;
+
+/// The modes of one lock owner on the bytes of one file, seen as a mode, or none, for each byte.
+///
+/// It may hold room for further sets, which then can't fail. Beyond 64 runs they are moved into a tree by the next set of a mode
+/// or the next reservation, where there is memory for it, so that neither an unlock nor a set in room that was held wants
+/// any. The tree stays when runs go, since an unlock that made a list of it would want memory; [`OwnerRuns::clear`] makes a
+/// list again, which has no run and so wants none.
+#[derive(Drop)]
+pub struct OwnerRuns {
+    kept: Kept,
+    alloc: Global,
+}
+
+/// The runs, by rising bytes: the largest ranges that have one mode throughout.
+#[derive(Drop)]
+enum Kept {
+    Few(RangeList),
+    Many(SetTree),
+}
+
+#[tactic(auto, unfolding(crate::specs::Lists::modes_of, crate::specs::Lists::room_of))]
+impl OwnerRuns {
+    /// No mode on any byte, and no room. It takes no memory.
+    pub fn new(alloc: Global) -> OwnerRuns
+        ensures modes { (byte : ℕ) → modes_of result byte ≡ None }
+        ensures room { room_of result ≡ 0 }
+    {
+        OwnerRuns {
+            kept: Kept::Few(RangeList::new(alloc)),
+            alloc,
+        }
+    }
+
+    /// Sets the mode on just the bytes of the span, or removes it where `mode` is `None`; the room that is held stays
+    /// (POSIX.1-2017 fcntl, `F_SETLK`: the new lock replaces the owner's old ones on these bytes).
+    ///
+    /// `Memory`, which never comes where an unlock splits no run, leaves the runs as they were.
+    pub fn set(&mut self, span: Span, mode: Option<Mode>) -> Result<(), Memory>
+        requires { IsByteRange span }
+        ensures ok { OnOk result (SetsMode (modes_of self.old) (modes_of self.new) span mode) }
+        ensures room { OnOk result (room_of self.old ≤ room_of self.new) }
+        ensures unlock { mode ≡ None → (¬ SplitsRun (modes_of self.old) span) → IsOk result }
+        ensures err { OnErr result (SameRuns self.old self.new) }
+    {
+        if mode.is_some() {
+            self.plant();
+        }
+        match &mut self.kept {
+            Kept::Few(list) => list.set(span, mode),
+            Kept::Many(tree) => tree.set(span, mode),
+        }
+    }
+
+    /// Moves the runs into a tree, where they are many and there is memory.
+    fn plant(&mut self)
+        ensures { SameRuns self.old self.new }
+    {
+        let Kept::Few(list) = &self.kept else {
+            return;
+        };
+        if let Some(tree) = tree_of(self.alloc, list) {
+            self.kept = Kept::Many(tree);
+        }
+    }
+
+    /// Holds room for so many further sets in all, counting the room already there.
+    ///
+    /// `Memory`, which never comes where that room is there, leaves the runs as they were.
+    pub fn reserve(&mut self, sets: usize) -> Result<(), Memory>
+        ensures modes { (byte : ℕ) → modes_of self.new byte ≡ modes_of self.old byte }
+        ensures kept { room_of self.old ≤ room_of self.new }
+        ensures ok { OnOk result (sets ≤ room_of self.new) }
+        ensures there { sets ≤ room_of self.old → IsOk result }
+        ensures err { OnErr result (SameRuns self.old self.new) }
+    {
+        self.plant();
+        match &mut self.kept {
+            Kept::Few(list) => list.reserve(sets),
+            Kept::Many(tree) => tree.reserve(sets),
+        }
+    }
+
+    /// For how many further sets there is room.
+    pub fn room(&self) -> usize
+        ensures { result ≡ room_of self.now }
+    {
+        match &self.kept {
+            Kept::Few(list) => list.room(),
+            Kept::Many(tree) => tree.room,
+        }
+    }
+
+    /// Sets the mode as [`OwnerRuns::set`] does, in room that was held: it takes no memory and uses at most one place up.
+    pub fn set_reserved(&mut self, span: Span, mode: Option<Mode>)
+        requires span { IsByteRange span }
+        requires room { 1 ≤ room_of self.old }
+        ensures modes { SetsMode (modes_of self.old) (modes_of self.new) span mode }
+        ensures room { room_of self.old ≤ room_of self.new + 1 }
+    {
+        match &mut self.kept {
+            Kept::Few(list) => list.set_reserved(span, mode),
+            Kept::Many(tree) => tree.set_reserved(span, mode),
+        }
+    }
+
+    /// Removes the mode of each byte; the room that is held stays. It takes no memory.
+    pub fn clear(&mut self)
+        ensures modes { (byte : ℕ) → modes_of self.new byte ≡ None }
+        ensures room { room_of self.new ≡ room_of self.old }
+    {
+        match &mut self.kept {
+            Kept::Few(list) => list.clear(),
+            Kept::Many(tree) => {
+                if tree.room == 0 {
+                    self.kept = Kept::Few(RangeList::new(self.alloc));
+                } else {
+                    tree.clear();
+                }
+            }
+        }
+    }
+
+    /// Whether no byte has a mode.
+    pub fn is_empty(&self) -> bool
+        ensures free { IsTrue result ↔ ((byte : ℕ) → modes_of self.now byte ≡ None) }
+        ensures held { IsFalse result → (byte : ℕ) × (mode : Mode) × (modes_of self.now byte ≡ Some mode) }
+    {
+        match &self.kept {
+            Kept::Few(list) => list.runs().is_empty(),
+            Kept::Many(tree) => tree.runs.is_empty(),
+        }
+    }
+
+    /// How many runs there are.
+    pub fn len(&self) -> usize
+        ensures { (runs : List (Mode × Span)) × AreRuns (modes_of self.now) runs × All (λ run. IsByteRange run.1) runs × (result ≡ length runs) }
+    {
+        match &self.kept {
+            Kept::Few(list) => list.runs().len(),
+            Kept::Many(tree) => tree.runs.count() as usize,
+        }
+    }
+
+    /// The mode of one byte.
+    pub fn mode_at(&self, byte: u64) -> Option<Mode>
+        ensures { result ≡ modes_of self.now byte }
+    {
+        let (mode, _) = self.run_at(byte)?;
+        Some(mode)
+    }
+
+    /// The least byte of the span whose mode conflicts with a lock of the mode `against` by another owner, and `None`
+    /// where no byte does.
+    pub fn first_hit(&self, span: Span, against: Mode) -> Option<u64>
+        requires { IsByteRange span }
+        ensures hit { IfSome result (IsFirstHit (modes_of self.now) span against) }
+        ensures none { IfNone result ((byte : ℕ) → Covers span byte → ¬ HeldConflicts (modes_of self.now byte) against) }
+    {
+        match &self.kept {
+            Kept::Few(list) => list.first_hit(span, against),
+            Kept::Many(tree) => tree.runs.first_hit(span, against),
+        }
+    }
+
+    /// The mode of the byte, and the largest range round it on all of which there is this one mode; `None` where the byte
+    /// has no mode (fcntl_locking(2): adjacent ranges of one mode are one lock).
+    pub fn run_at(&self, byte: u64) -> Option<(Mode, Span)>
+        ensures run { IfSome result (λ run. IsRun (modes_of self.now) byte run.0 run.1) }
+        ensures range { IfSome result (λ run. IsByteRange run.1) }
+        ensures none { IfNone result (modes_of self.now byte ≡ None) }
+    {
+        match &self.kept {
+            Kept::Few(list) => list.run_at(byte),
+            Kept::Many(tree) => tree.runs.run_at(byte),
+        }
+    }
+
+    /// From the first byte that has a mode to the last; `None` where no byte has one.
+    pub fn extent(&self) -> Option<Span>
+        ensures some { IfSome result (λ span. (byte : ℕ) → (¬ Covers span byte) → modes_of self.now byte ≡ None) }
+        ensures ends { IfSome result (λ span. (modes_of self.now span.first ≢ None) × (modes_of self.now span.last ≢ None)) }
+        ensures range { IfSome result IsByteRange }
+        ensures none { IfNone result ((byte : ℕ) → modes_of self.now byte ≡ None) }
+    {
+        match &self.kept {
+            Kept::Few(list) => extent_of(list),
+            Kept::Many(tree) => tree.runs.extent(),
+        }
+    }
+
+    /// All the runs, by rising bytes: each the largest range round its bytes on all of which there is one mode.
+    pub fn runs(&self) -> Runs<'_>
+        ensures runs { AreRuns (modes_of self.now) result }
+        ensures ranges { All (λ run. IsByteRange run.1) result }
+    {
+        match &self.kept {
+            Kept::Few(list) => Runs::of_list(list.runs()),
+            Kept::Many(tree) => tree.runs.runs(),
+        }
+    }
+
+    /// The runs that share a byte with the span or lie right beside it, by rising bytes.
+    pub fn touching(&self, span: Span) -> Runs<'_>
+        requires { IsByteRange span }
+        ensures runs { AreRunsTouching (modes_of self.now) span result }
+        ensures ranges { All (λ run. IsByteRange run.1) result }
+    {
+        match &self.kept {
+            Kept::Few(list) => Runs::of_list(touching(list.runs(), span)),
+            Kept::Many(tree) => tree.runs.touching(span),
+        }
+    }
+}
+
+/// A tree of the runs of this list and with its room, where they are many and there is memory.
+fn tree_of(alloc: Global, list: &RangeList) -> Option<SetTree>
+    ensures modes { IfSome result (λ tree. (byte : ℕ) → mode_in tree.runs.items byte ≡ list_modes_of list.now byte) }
+    ensures room { IfSome result (λ tree. tree.room ≡ list_room_of list.now) }
+{
+    let runs = list.runs();
+    if runs.len() <= FEW_RUNS {
+        return None;
+    }
+    SetTree::of_runs(alloc, runs, list.room()).ok()
+}
+
+/// From the first byte of the list to the last; `None` where it has none.
+fn extent_of(list: &RangeList) -> Option<Span>
+    ensures some { IfSome result (λ span. (byte : ℕ) → (¬ Covers span byte) → list_modes_of list.now byte ≡ None) }
+    ensures ends { IfSome result (λ span. (list_modes_of list.now span.first ≢ None) × (list_modes_of list.now span.last ≢ None)) }
+    ensures range { IfSome result IsByteRange }
+    ensures none { IfNone result ((byte : ℕ) → list_modes_of list.now byte ≡ None) }
+{
+    let runs = list.runs();
+    let first = runs.first()?;
+    let last = runs.last()?;
+    Some(Span {
+        first: first.1.first,
+        last: last.1.last,
+    })
+}
+
+/// Those of the runs, which come in order, that share a byte with the span or lie right beside it.
+fn touching(runs: &[(Mode, Span)], span: Span) -> &[(Mode, Span)]
+    requires span { IsByteRange span }
+    requires rising { AllPairs (λ run other. run.1.last < other.1.first) runs.now }
+    requires ranges { All (λ run. IsByteRange run.1) runs.now }
+    ensures runs { (modes : Modes) → AreRuns modes runs.now → AreRunsTouching modes span result.now }
+    ensures ranges { All (λ run. IsByteRange run.1) result.now }
+{
+    let (start, end) = touched(runs, span);
+    &runs[start..end]
+}
+
+/// From where to where they stand.
+fn touched(runs: &[(Mode, Span)], span: Span) -> (usize, usize)
+    requires span { IsByteRange span }
+    requires rising { AllPairs (λ run other. run.1.last < other.1.first) runs.now }
+    requires ranges { All (λ run. IsByteRange run.1) runs.now }
+    ensures { AreTouched runs.now span result.0 result.1 }
+{
+    let before = span.first.saturating_sub(1);
+    let behind = span.last + 1;
+    let start = runs.partition_point(|run| run.1.last < before);
+    let end = runs.partition_point(|run| run.1.first <= behind);
+    (start, end)
+}
