@@ -2,12 +2,14 @@
 use Rattle.interval_index.proofs.Common.{◌≡◌, ◌≢◌, ℕ, ◌<◌, ◌≤◌, ◌⊎◌, Bool, true, false, not, cond, ◌&&◌, ◌||◌, leb, Option, Some, None, List, [], ◌∷◌, refl, sym, ap, ◌∙◌, subst, arith, find, list_any, AllByRecursion, Any, Mode, Span, Conflict, Holder, Run, Reaching, holder_of, is_same_holder, is_by, IsBefore, AreOrdered, begins_after, blocks, conflicts_with, reaches_lock, IsLeastOf}
 use Rattle.std.proofs.Common.{zero, suc, inl, inr, length, get_or}
 use Rattle.std.proofs.lemmas.Bool.{and_from, le-leb, le-ltb, leb-true, ltb-false, or_left, or_right}
+use Rattle.std.specs.Option.{IfSome}
 use Rattle.range_core.specs.Ranges.{Covers, HeldConflicts}
 use Rattle.summary_tree.specs.Cuts.{IsCutBy, before}
+use Rattle.interval_index.specs.declared.FirstInTheWay.{FirstInTheWay}
 use Rattle.interval_index.specs.Holders.{IsBeforeHolder}
 use Rattle.interval_index.specs.Leasts.{reaches_by}
-use Rattle.interval_index.specs.Standing.{HolderModes, Tells, AreRunsOf, BlocksOn, IsFirstInTheWay}
-use Rattle.interval_index.proofs.HolderLemmas.{another_found, another_holds, by_both, by_itself, by_not_before, not_both_before}
+use Rattle.interval_index.specs.Standing.{HolderModes, Tells, AreRunsOf, BlocksOn, IsFirstInTheWay, IsRunThere}
+use Rattle.interval_index.proofs.HolderLemmas.{another_found, another_holds, by_both, by_itself, by_not_before, not_both_before, same_holds}
 use Rattle.interval_index.proofs.Blocking.{any_here, any_there, conflict_found, conflict_holds, parts, whole}
 use Rattle.interval_index.proofs.Order.{cut_beyond}
 use Rattle.interval_index.proofs.Standings.{any_like}
@@ -210,3 +212,36 @@ never_none holder span wanted run runs s i l told =
     let a = any_like (λ y. y ≡ run) (Hits holder wanted span.first (holder_of run)) runs (λ y e. subst (Hits holder wanted span.first (holder_of run)) (sym e) hit) found.among in
     let t : false ≡ true = told.exact (holder_of run) ∙ owner_found query (holder_of run) runs s a in
     absurd (cc)
+
+-- a byte and an owner that are the first are so by the names of what tells them
+pub told_first : (modes : HolderModes) (holder : Holder) (span : Span) (wanted : Mode) (byte : ℕ) (least : Holder) (hit : FirstInTheWay) → hit.byte ≡ byte → hit.holder ≡ least
+    → IsFirstInTheWay modes holder span wanted byte least → IsFirstInTheWay modes holder span wanted hit.byte hit.holder
+told_first modes holder span wanted byte least hit at its first =
+    subst (λ (b : ℕ). IsFirstInTheWay modes holder span wanted b hit.holder) (sym at) (subst (λ (h : Holder). IsFirstInTheWay modes holder span wanted byte h) (sym its) first)
+
+met_at : (run : Run) (runs : List Run) (byte : ℕ) (least : Holder) (b : Bool) → is_same_holder (holder_of run) least ≡ b → Any (λ y. y ≡ run) runs → Covers run.span byte → IfSome (cond b (Some run) None) (IsRunThere runs least byte)
+met_at run runs byte least true e among covers = record { among = among; of = same_holds (holder_of run) least e; covered = covers }
+met_at run runs byte least false e among covers = tt
+
+met : (run : Run) (runs : List Run) (hit : FirstInTheWay) (least : Holder) → hit.holder ≡ least → hit.run ≡ cond (is_same_holder (holder_of run) least) (Some run) None → Any (λ y. y ≡ run) runs → Covers run.span hit.byte → IfSome hit.run (IsRunThere runs hit.holder hit.byte)
+met run runs hit least its is among covers =
+    subst (λ (o : Option Run). IfSome o (IsRunThere runs hit.holder hit.byte)) (sym is)
+    (subst (λ (h : Holder). IfSome (cond (is_same_holder (holder_of run) least) (Some run) None) (IsRunThere runs h hit.byte)) (sym its)
+    (met_at run runs hit.byte least (is_same_holder (holder_of run) least) refl among covers))
+
+module _ (holder : Holder) (span : Span) (wanted : Mode) (run : Run) (runs : List Run) (ordered : AreOrdered runs) (found : find (blocks holder span wanted) runs ≡ Some run)
+    (hit : FirstInTheWay) (least : Holder) (its : hit.holder ≡ least) (is : hit.run ≡ cond (is_same_holder (holder_of run) least) (Some run) None) where
+  -- the first run that blocks covers its first byte
+  pub met_begins : hit.byte ≡ run.span.first → IfSome hit.run (IsRunThere runs hit.holder hit.byte)
+  met_begins at =
+      let f = is_found (blocks holder span wanted) run runs ordered found in
+      let filled = f.filled in
+      met run runs hit least its is f.among (omega arith, omega arith)
+
+  -- and the range's, where it begins by that
+  pub met_reaches : hit.byte ≡ span.first → run.span.first ≤ span.first → IfSome hit.run (IsRunThere runs hit.holder hit.byte)
+  met_reaches at begins =
+      let f = is_found (blocks holder span wanted) run runs ordered found in
+      let p = parts (is_same_holder holder (holder_of run)) run.span.first run.span.last span.first span.last (conflicts_with wanted run.mode) f.passes in
+      let behind = p.behind in
+      met run runs hit least its is f.among (omega arith, omega arith)

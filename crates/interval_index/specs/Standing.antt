@@ -43,3 +43,9 @@ pub record IsFirstInTheWay (modes : HolderModes) (holder : Holder) (span : Span)
   pub blocks : BlocksOn modes holder wanted byte other
   pub least_byte : (before : ℕ) (any : Holder) → span.first ≤ before → before < byte → ¬ BlocksOn modes holder wanted before any
   pub least_owner : (any : Holder) → IsBeforeHolder any other → ¬ BlocksOn modes holder wanted byte any
+
+-- of these runs it is one of the owner's, and it covers the byte
+pub record IsRunThere (runs : List Run) (holder : Holder) (byte : ℕ) (run : Run) : Type 0 where
+  pub among : Any (λ other. other ≡ run) runs
+  pub of : holder_of run ≡ holder
+  pub covered : Covers run.span byte

@@ -1,15 +1,15 @@
 //! The runs in order.
-ghost use Rattle.std.specs.Prelude.{◌≡◌, ◌+◌, ◌<◌, ◌≤◌, ◌↔◌, ◌&&◌, IsTrue, IsOk, OnOk, OnErr, IfSome, IfNone, Any, [], length};
+ghost use Rattle.std.specs.Prelude.{◌≡◌, ◌+◌, ◌<◌, ◌≤◌, ◌↔◌, ◌&&◌, IsTrue, IsOk, OnOk, OnErr, Some, None, IfSome, IfNone, Any, cond, [], length};
 ghost use Rattle.std.specs.List.{find};
-ghost use Rattle.interval_index.specs.Holders.{holder_of};
+ghost use Rattle.interval_index.specs.Holders.{holder_of, is_same_holder};
 ghost use Rattle.interval_index.specs.Runs.{Blocks};
-ghost use Rattle.interval_index.specs.Standing.{AreRunsOf, HolderConflict, HolderModes, IsFirstInTheWay};
+ghost use Rattle.interval_index.specs.Standing.{AreRunsOf, HolderConflict, HolderModes, IsFirstInTheWay, IsRunThere};
 ghost use Rattle.interval_index.specs.Tests.{beginning_by, blocks, has_key, is_after, without, with_run};
 
 use crate::keys::{After, Beyond, Key};
 use crate::queries::Reaching;
 use crate::reach::Reaches;
-use crate::{Holder, Run};
+use crate::{FirstInTheWay, Holder, Run};
 use range_core::{Memory, Mode, Span};
 use std::alloc::Global;
 use std::marker::Model;
@@ -100,15 +100,17 @@ impl RunIndex {
         self.first(holder, span, wanted).is_some()
     }
 
-    /// The least byte of the range that some run blocks, and of the owners of those that block there the least.
+    /// The least byte of the range that some run blocks, of the owners of those that block there the least, and its run there
+    /// where the search met it.
     pub fn first_in_the_way(
         &self,
         holder: Holder,
         span: Span,
         wanted: Mode,
-    ) -> Option<(u64, Holder)>
+    ) -> Option<FirstInTheWay>
         requires { span.first ≤ span.last }
-        ensures first { (modes : HolderModes) → AreRunsOf modes self.now.runs → IfSome result (λ hit. IsFirstInTheWay modes holder span wanted hit.0 hit.1) }
+        ensures first { (modes : HolderModes) → AreRunsOf modes self.now.runs → IfSome result (λ hit. IsFirstInTheWay modes holder span wanted hit.byte hit.holder) }
+        ensures run { IfSome result (λ hit. IfSome hit.run (IsRunThere self.now.runs hit.holder hit.byte)) }
         ensures none { (modes : HolderModes) → AreRunsOf modes self.now.runs → IfNone result (¬ HolderConflict modes holder span wanted) }
     {
         // The proof reads the order of the runs from the field.
@@ -116,7 +118,7 @@ impl RunIndex {
         let run = self.first(holder, span, wanted)?;
         // None of the runs that begin before this one reaches it.
         if span.first < run.span.first {
-            return Some((run.span.first, run.holder()));
+            return Some(in_the_way(run.span.first, run.holder(), run));
         }
         let query = Reaching {
             holder,
@@ -126,7 +128,7 @@ impl RunIndex {
         let mut least: Option<Holder> = None;
         self.runs
             .walk_before(&Beyond(span.first), &query, &mut least);
-        Some((span.first, least?))
+        Some(in_the_way(span.first, least?, run))
     }
 
     /// Holds room for so many more runs in all, counting the room already there.
@@ -187,5 +189,19 @@ fn beginning_by(run: Option<Run>, byte: u64) -> Option<Run>
                 None
             }
         }
+    }
+}
+
+/// The owner blocks the byte, by the run if that is the owner's.
+fn in_the_way(byte: u64, holder: Holder, run: Run) -> FirstInTheWay
+    ensures byte { result.byte ≡ byte }
+    ensures holder { result.holder ≡ holder }
+    ensures run { result.run ≡ cond (is_same_holder (holder_of run) holder) (Some run) None }
+{
+    let is_its = run.holder() == holder;
+    FirstInTheWay {
+        byte,
+        holder,
+        run: if is_its { Some(run) } else { None },
     }
 }

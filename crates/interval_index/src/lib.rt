@@ -35,6 +35,17 @@ pub struct Run {
     pub mode: Mode,
 }
 
+/// What stands first in the way of a lock.
+#[derive(Clone, Copy, Debug, PartialEq, Eq)]
+pub struct FirstInTheWay {
+    /// The least byte of the range that some run blocks.
+    pub byte: u64,
+    /// The least owner of those that block there.
+    pub holder: Holder,
+    /// Its run there, where the search met it: it needs not be looked for among the owner's.
+    pub run: Option<Run>,
+}
+
 impl Run {
     /// Whose lock it is.
     pub fn holder(&self) -> Holder

@@ -1,5 +1,5 @@
 //! An index against a list of runs that is searched from its front.
-use interval_index::{Holder, Run, RunIndex};
+use interval_index::{FirstInTheWay, Holder, Run, RunIndex};
 use range_core::{Memory, Mode, Span};
 use std::alloc::Global;
 use std::fmt::Debug;
@@ -85,6 +85,29 @@ fn stand_in_the_way(rt: &impl Abort, index: &RunIndex) {
     same(rt, first, Some(run(1, 0, 9, Mode::Read)));
 }
 
+/// Who writes the bytes from the one to the other has this first in the way.
+fn is_told(rt: &impl Abort, index: &RunIndex, bytes: (u64, u64), due: FirstInTheWay) {
+    let asked = run(5, bytes.0, bytes.1, Mode::Write);
+    let first = first_in_the_way(rt, index, &asked);
+    same(rt, (bytes, first), (bytes, Some(due)));
+}
+
+/// The owner blocks the byte, and the run is told, or none.
+fn at(byte: u64, owner: u64, run: Option<Run>) -> FirstInTheWay {
+    let holder = holder(owner);
+    FirstInTheWay { byte, holder, run }
+}
+
+/// The run of the least owner is told, but for where another's begins before it.
+fn runs_are_told(rt: &impl Abort, index: &RunIndex) {
+    let [one, two] = [run(1, 0, 9, Mode::Read), run(2, 5, 20, Mode::Read)];
+    let three = run(3, 30, 30, Mode::Write);
+    is_told(rt, index, (0, 6), at(0, 1, Some(one)));
+    is_told(rt, index, (6, 7), at(6, 2, None));
+    is_told(rt, index, (15, 40), at(15, 2, Some(two)));
+    is_told(rt, index, (21, 40), at(30, 3, Some(three)));
+}
+
 /// The writer goes, once.
 fn writer_goes(rt: &impl Abort, index: &mut RunIndex) {
     let writer = run(3, 30, 30, Mode::Write);
@@ -99,6 +122,7 @@ fn two_readers_and_a_writer(rt: HostRuntime) -> Result<(), Fail> {
     put_three(&rt, index)?;
     same(&rt, index.len(), 3);
     stand_in_the_way(&rt, index);
+    runs_are_told(&rt, index);
     writer_goes(&rt, index);
     Ok(())
 }
@@ -148,8 +172,17 @@ fn first_of(runs: &[Run], wanted: &Run) -> Option<Run> {
     first
 }
 
-/// The least byte of the wanted range that a run of the list blocks, and the least owner that blocks there.
-fn in_the_way(runs: &[Run], wanted: &Run) -> Option<(u64, Holder)> {
+/// The run, if it is the owner's.
+fn run_of(run: Option<Run>, holder: Holder) -> Option<Run> {
+    match run {
+        Some(run) if run.holder() == holder => Some(run),
+        _ => None,
+    }
+}
+
+/// The least byte of the wanted range that a run of the list blocks, the least owner that blocks there, and the first run in the
+/// way, if it is that owner's.
+fn in_the_way(runs: &[Run], wanted: &Run) -> Option<FirstInTheWay> {
     let mut least: Option<(u64, u8, u64)> = None;
     for run in runs {
         if blocks(run, wanted) {
@@ -161,11 +194,13 @@ fn in_the_way(runs: &[Run], wanted: &Run) -> Option<(u64, Holder)> {
         }
     }
     let (byte, class, number) = least?;
-    Some((byte, Holder { class, number }))
+    let holder = Holder { class, number };
+    let run = run_of(first_of(runs, wanted), holder);
+    Some(FirstInTheWay { byte, holder, run })
 }
 
 /// The same of the index.
-fn first_in_the_way(rt: &impl Abort, index: &RunIndex, wanted: &Run) -> Option<(u64, Holder)> {
+fn first_in_the_way(rt: &impl Abort, index: &RunIndex, wanted: &Run) -> Option<FirstInTheWay> {
     assert!(rt; wanted.span.first <= wanted.span.last);
     index.first_in_the_way(wanted.holder(), wanted.span, wanted.mode)
 }
@@ -276,7 +311,7 @@ fn put_readers(rt: &impl Abort, index: &mut RunIndex) -> Result<(), Memory> {
 
 /// In the way of the run is first this.
 fn is_first(rt: &impl Abort, index: &RunIndex, asked: Run, due: Option<(u64, Holder)>) {
-    let first = first_in_the_way(rt, index, &asked);
+    let first = first_in_the_way(rt, index, &asked).map(|hit| (hit.byte, hit.holder));
     same(rt, (asked, first), (asked, due));
 }
 

@@ -1,5 +1,5 @@
 -- Who blocks a lock, read off the lists of owners: for `blocked`, `first_hit` and `process_blocks`.
-use Rattle.lock_book.proofs.Common.{ℕ, ◌≡◌, ◌≢◌, ◌<◌, ◌≤◌, ◌∙◌, sym, ap, refl, subst, arith, true, false, Option, Some, None, List, [], ◌∷◌, ◌++◌, All, Any, map, common_steps, is_some, MatchOption, Bor, TakesFirst, deref_pair, Yields, lookup, Less, All-push, All-weaker, Mode, Span, RangeList, Covers, HeldConflicts, Owner, Process, Book, is_same_owner, IsBefore, ByteModes, Blocks, list_of, byte_modes_of, AreFound, AreRising, modes_in_list, modes_of}
+use Rattle.lock_book.proofs.Common.{ℕ, ◌≡◌, ◌≢◌, ◌<◌, ◌≤◌, ◌∙◌, sym, ap, refl, subst, arith, true, false, Option, Some, None, List, [], ◌∷◌, ◌++◌, All, Any, map, common_steps, is_some, MatchOption, Bor, TakesFirst, deref_pair, Yields, lookup, Less, All-push, All-weaker, Mode, Span, OwnerRuns, Covers, HeldConflicts, Owner, Process, Book, is_same_owner, IsBefore, ByteModes, Blocks, list_of, byte_modes_of, AreFound, AreRising, modes_in_list, modes_of}
 use Rattle.std.proofs.Common.{◌↔◌}
 use Rattle.std.specs.Prelude.{nat_lt, IsTrue, IfSome, IfNone}
 use Rattle.std.proofs.lemmas.Bool.{ltb-true, ltb-false}
@@ -26,7 +26,7 @@ ProcessBlocks-none modes process owner span wanted none conflict = rw none at co
 
 -- an entry of a map of owners, as a loop over it gives it
 abbrev pub Item : Type 0
-Item = Bor Owner × Bor RangeList
+Item = Bor Owner × Bor OwnerRuns
 
 module _ (modes : ByteModes) (owner : Owner) (span : Span) (wanted : Mode) where
   -- the other owner blocks no byte of the range
@@ -156,7 +156,7 @@ module _ (modes : ByteModes) (owner : Owner) (span : Span) (wanted : Mode) where
       least_not_lower items found x byte least hit (ltb-false byte found.0 (sym lower)) earlier
 
 -- the next entry of a loop has its owner's modes
-pub modes_in_loop : (book : Book) (items : List Item) (s t u : List (Owner × RangeList)) (r : Option Item) (x : Item) → s ≡ book.owners
+pub modes_in_loop : (book : Book) (items : List Item) (s t u : List (Owner × OwnerRuns)) (r : Option Item) (x : Item) → s ≡ book.owners
     → Yields (TakesFirst deref_pair) s items t → r ≡ Some x → TakesFirst deref_pair t r u
     → AreFound book.owners → byte_modes_of book x.0.now ≡ modes_of x.1.now
 modes_in_loop book items s t u r x start yields is step all =
@@ -164,7 +164,7 @@ modes_in_loop book items s t u r x start yields is step all =
     (list_of-lookup book x.0.now ∙ next_in_loop (λ e. lookup (is_same_owner e.0) book.owners ≡ Some e.1) book.owners items s t u r x start yields is step all)
 
 -- and comes after the entries so far
-pub before_in_loop : (book : Book) (items : List Item) (s t u : List (Owner × RangeList)) (r : Option Item) (x : Item) → s ≡ book.owners
+pub before_in_loop : (book : Book) (items : List Item) (s t u : List (Owner × OwnerRuns)) (r : Option Item) (x : Item) → s ≡ book.owners
     → Yields (TakesFirst deref_pair) s items t → r ≡ Some x → TakesFirst deref_pair t r u → AreRising book.owners
     → All (λ y. IsBefore y.0.now x.0.now) items
 before_in_loop book items s t u r x start yields is step rising =
@@ -173,7 +173,7 @@ before_in_loop book items s t u r x start yields is step rising =
 
 -- what holds of each entry's owner holds of each owner with a list
 pub owner_in : (book : Book) (items : List Item) (P : Owner → Type 0) → map deref_pair items ≡ book.owners → All (λ x. P x.0.now) items
-    → (other : Owner) (list : RangeList) → list_of book other ≡ Some list → P other
+    → (other : Owner) (list : OwnerRuns) → list_of book other ≡ Some list → P other
 unfolding list_of
 owner_in book items P whole all other list found =
     let entry = found_in_loop (λ e. P e.0) book.owners items whole all (is_same_owner other) list found in
@@ -188,7 +188,7 @@ no_modes book items whole none owner byte = elim (list_of book owner) as (λ l. 
 ] refl
 
 -- an owner whose mode conflicts has a list
-pub list_in : (list : Option RangeList) (byte : ℕ) (wanted : Mode) → HeldConflicts (modes_in_list list byte) wanted → (some : RangeList) × (list ≡ Some some)
+pub list_in : (list : Option OwnerRuns) (byte : ℕ) (wanted : Mode) → HeldConflicts (modes_in_list list byte) wanted → (some : OwnerRuns) × (list ≡ Some some)
 list_in None byte wanted conflicts = absurd conflicts
 list_in (Some list) byte wanted conflicts = (list, refl)
 
@@ -235,7 +235,7 @@ first_from_least book items owner span wanted None whole least = tt
 first_from_least book items owner span wanted (Some hit) whole least = least_some book items owner span wanted hit.0 hit.1 whole least
 
 -- the least of the entries so far at the first byte of the range is the first, since those that are left come later
-pub first_at_start : (book : Book) (items : List Item) (s t u : List (Owner × RangeList)) (r : Option Item) (x : Item) → s ≡ book.owners
+pub first_at_start : (book : Book) (items : List Item) (s t u : List (Owner × OwnerRuns)) (r : Option Item) (x : Item) → s ≡ book.owners
     → Yields (TakesFirst deref_pair) s items t → r ≡ Some x → TakesFirst deref_pair t r u → AreRising book.owners
     → (owner : Owner) (span : Span) (wanted : Mode) (byte : ℕ) → byte ≡ span.first
     → IsLeast (byte_modes_of book) owner span wanted (items ++ x ∷ []) byte x.0.now → IsFirstBlocked (byte_modes_of book) owner span wanted byte x.0.now

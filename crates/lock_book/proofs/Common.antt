@@ -3,7 +3,6 @@ pub use Rattle.std.proofs.Common.{All, Any, Bool, Box, Err, Global, List, None, 
 pub use Rattle.std.proofs.lemmas.Bool.{cases_Bool, cases_lt, cond-false, eq-eqb, eqb-true, not-true}
 pub use Rattle.std.proofs.lemmas.Bool.Decides.{nat_tests}
 pub use Rattle.std.proofs.lemmas.Grind.{common_steps}
-pub use Rattle.std.proofs.lemmas.List.{take_all}
 pub use Rattle.std.proofs.lemmas.List.Elements.{All-append, All-cons, All-head, All-nil, All-push, All-tail, All-weaker}
 pub use Rattle.std.proofs.lemmas.Map.Iter.{iter_end}
 pub use Rattle.std.specs.BTreeMap.{BTreeMap, get, is_at}
@@ -33,11 +32,11 @@ pub use Rattle.lock_book.specs.declared.Held.{Held}
 pub use Rattle.lock_book.specs.declared.Owner.{Owner}
 pub use Rattle.lock_book.specs.declared.Owner.TheVariants.{Description, Process}
 pub use Rattle.lock_book.specs.declared.book.Book.{Book}
+unfoldable pub use Rattle.owner_runs.specs.Lists.{modes_of}
+pub use Rattle.owner_runs.specs.Lists.{OwnersStandForRuns}
+pub use Rattle.owner_runs.specs.declared.owner_runs.OwnerRuns.{OwnerRuns}
 pub use Rattle.range_core.specs.Changes.{is_covered}
-unfoldable pub use Rattle.range_core.specs.Changes.{modes_of}
 pub use Rattle.range_core.specs.Ranges.{AreRuns, Covers, HeldConflicts, IsByteRange, IsRun, Modes}
-pub use Rattle.range_core.specs.SomeRuns.{ListsStandForRuns}
 pub use Rattle.range_core.specs.declared.Mode.{Mode}
 pub use Rattle.range_core.specs.declared.Mode.TheVariants.{Read, Write}
 pub use Rattle.range_core.specs.declared.Span.{Span}
-pub use Rattle.range_core.specs.declared.list.RangeList.{RangeList}

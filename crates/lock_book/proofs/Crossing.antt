@@ -3,8 +3,8 @@ use denote.Param.Send.{sendable, view_send, IsSend}
 use denote.Param.SendFields.{declared_send, variants_send, as_row_send}
 use Rattle.std.proofs.Crossing.{Box-send, crosses, send}
 use Rattle.std.proofs.MapsCrossing.{BTreeMap-send}
-use Rattle.range_core.specs.contracts.RangeList as list
 use Rattle.interval_index.proofs.Crossing.{runs_send}
+use Rattle.owner_runs.proofs.Crossing.{owner_runs_send}
 use Rattle.lock_book.specs.contracts.book.Book as book
 use Rattle.lock_book.specs.contracts.Owner as owner
 use Rattle.lock_book.specs.contracts.book.holders.FlockHolders as holders
@@ -19,17 +19,14 @@ index_send = search (Box-send, sendable, runs_send) depth 20
 owner_send : IsSend owner.the_row
 owner_send = search sendable depth 20
 
-list_send : IsSend list.the_row
-list_send = search (sendable, crosses) depth 40
-
 holders_send : IsSend holders.the_row
 holders_send = search (BTreeMap-send, sendable, crosses) depth 20
 
-owned_list_send : IsSend owned_list.the_row
-owned_list_send = search (owner_send, list_send, declared_send, tt) depth 20
+owned_owner_runs_send : IsSend owned_list.the_row
+owned_owner_runs_send = search (owner_send, owner_runs_send, declared_send, tt) depth 20
 
 kept_send : IsSend kept.the_row
-kept_send = search (BTreeMap-send, Box-send, owner_send, list_send, owned_list_send, variants_send, as_row_send, tt) depth 20
+kept_send = search (BTreeMap-send, Box-send, owner_send, owner_runs_send, owned_owner_runs_send, variants_send, as_row_send, tt) depth 20
 
 lists_send : IsSend lists.the_row
 lists_send = search (view_send, declared_send, kept_send, tt) depth 20

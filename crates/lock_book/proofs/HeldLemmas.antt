@@ -1,5 +1,5 @@
 -- The byte locks of a file, owner by owner and run by run: for the report (`held`).
-use Rattle.lock_book.proofs.Common.{ℕ, ◌≡◌, ◌<◌, ◌∙◌, sym, ap, refl, subst, arith, true, Option, Some, None, List, [], ◌∷◌, ◌++◌, All, Any, map, inl, inr, AllPairs, deref_pair, All-push, All-append, All-weaker, Mode, RangeList, modes_of, Covers, IsByteRange, IsRun, Owner, Description, Held, Book, IsBefore, ByteModes, list_of, byte_modes_of, flock_modes_of, modes_in_list}
+use Rattle.lock_book.proofs.Common.{ℕ, ◌≡◌, ◌<◌, ◌∙◌, sym, ap, refl, subst, arith, true, Option, Some, None, List, [], ◌∷◌, ◌++◌, All, Any, map, inl, inr, AllPairs, deref_pair, All-push, All-append, All-weaker, Mode, OwnerRuns, modes_of, Covers, IsByteRange, IsRun, Owner, Description, Held, Book, IsBefore, ByteModes, list_of, byte_modes_of, flock_modes_of, modes_in_list}
 use Rattle.std.specs.Prelude.{◌⊎◌, IsFalse}
 use Rattle.std.proofs.lemmas.List.Quantifiers.{all_pairs_push, Any-push}
 use Rattle.lock_book.specs.Changes.{whole_file}
@@ -69,7 +69,7 @@ locks_of_more file modes items x old new locks same before adds =
     })
 
 -- a mode of a book stands in a list
-list_with : (list : Option RangeList) (byte : ℕ) (mode : Mode) → modes_in_list list byte ≡ Some mode → (some : RangeList) × (list ≡ Some some)
+list_with : (list : Option OwnerRuns) (byte : ℕ) (mode : Mode) → modes_in_list list byte ≡ Some mode → (some : OwnerRuns) × (list ≡ Some some)
 list_with None byte mode has = absurd (let h : None ≡ Some mode = has in cc)
 list_with (Some list) byte mode has = (list, refl)
 

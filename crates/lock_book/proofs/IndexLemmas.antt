@@ -1,8 +1,8 @@
 -- What takes and puts leave of the runs that an index keeps: for `take_runs`, `put_runs` and others.
-use Rattle.lock_book.proofs.Common.{◌≡◌, ◌==◌, ℕ, ◌<◌, ◌+◌, inl, inr, Bool, true, false, not, ◌&&◌, ◌||◌, cond, List, [], ◌∷◌, All, length, get_or, take, refl, sym, ap, ◌∙◌, subst, arith, list_any, cases_Bool, not-true, nat_tests, All-cons, All-head, All-tail, All-weaker, Mode, Span, IsRun, Holder, Run, holder_of, HolderModes, AreRunsWhere, is_listed}
+use Rattle.lock_book.proofs.Common.{◌≡◌, ◌==◌, ℕ, ◌++◌, inl, inr, Bool, true, false, not, ◌&&◌, ◌||◌, cond, List, [], ◌∷◌, All, length, get_or, take, refl, sym, ap, ◌∙◌, subst, arith, list_any, cases_Bool, not-true, nat_tests, All-cons, All-head, All-tail, All-weaker, Mode, Span, IsRun, Holder, Run, holder_of, HolderModes, AreRunsWhere, is_listed}
 use Rattle.std.proofs.lemmas.Bool.{and_from, and_parts, or_left, or_right, or_cases, not_from_false}
 use Rattle.std.proofs.lemmas.List.Elements.{All-filter, filter_passes}
-use Rattle.std.proofs.lemmas.List.Folds.{list_any_more}
+use Rattle.std.proofs.lemmas.List.Folds.{list_any-append}
 use Rattle.std.proofs.lemmas.Map.Views.{any-filter_same}
 use Rattle.summary_tree.specs.Cuts.{put_before}
 use Rattle.interval_index.specs.Tests.{has_key, is_from, without, with_run}
@@ -134,61 +134,60 @@ or_or : (a b c : Bool) → (a || (b || c)) ≡ ((a || b) || c)
 or_or true b c = refl
 or_or false b c = refl
 
-module _ (holder : Holder) (list : List (Mode × Span)) where
-  -- one more of the list, as at a step of a loop
-  listed_more : (run : Run) (k : ℕ) (d : Mode × Span) → k < length list
-      → is_listed holder (take (k + 1) list) run ≡ (is_listed holder (take k list) run || has_key (get_or list k d).1.first holder run)
-  listed_more run k d within = list_any_more (λ listed. has_key listed.1.first holder run) list k d within
+module _ (holder : Holder) where
+  -- one more that is listed, as at a step of a loop
+  listed_more : (run : Run) (xs : List (Mode × Span)) (x : Mode × Span) → is_listed holder (xs ++ x ∷ []) run ≡ (is_listed holder xs run || has_key x.1.first holder run)
+  listed_more run xs x =
+      list_any-append (λ listed. has_key listed.1.first holder run) xs (x ∷ []) ∙ ap (λ b. is_listed holder xs run || b) (or-false (has_key x.1.first holder run))
 
   module _ (modes : HolderModes) (passes : Run → Bool) (runs : List Run) where
-    -- none of it, as before a loop
-    pub takes_none : AreRunsWhere modes passes runs → AreRunsWhere modes (λ run. passes run && not (is_listed holder (take 0 list) run)) runs
-    takes_none are =
-        AreRunsWhere-agrees modes passes (λ run. passes run && not (is_listed holder (take 0 list) run)) runs (λ run is. and-true (passes run)) are
+    -- none, as before a loop
+    pub takes_none : AreRunsWhere modes passes runs → AreRunsWhere modes (λ run. passes run && not (is_listed holder [] run)) runs
+    takes_none are = AreRunsWhere-agrees modes passes (λ run. passes run && not (is_listed holder [] run)) runs (λ run is. and-true (passes run)) are
 
-    pub puts_none : AreRunsWhere modes passes runs → AreRunsWhere modes (λ run. passes run || is_listed holder (take 0 list) run) runs
-    puts_none are = AreRunsWhere-agrees modes passes (λ run. passes run || is_listed holder (take 0 list) run) runs (λ run is. or-false (passes run)) are
+    pub puts_none : AreRunsWhere modes passes runs → AreRunsWhere modes (λ run. passes run || is_listed holder [] run) runs
+    puts_none are = AreRunsWhere-agrees modes passes (λ run. passes run || is_listed holder [] run) runs (λ run is. or-false (passes run)) are
 
-    -- and all of it, as behind one
-    pub takes_all : (k : ℕ) → take k list ≡ list → AreRunsWhere modes (λ run. passes run && not (is_listed holder (take k list) run)) runs
+    -- and all, as behind one
+    pub takes_all : (xs list : List (Mode × Span)) → xs ≡ list → AreRunsWhere modes (λ run. passes run && not (is_listed holder xs run)) runs
         → AreRunsWhere modes (λ run. passes run && not (is_listed holder list run)) runs
-    takes_all k all are = subst (λ (l : List (Mode × Span)). AreRunsWhere modes (λ run. passes run && not (is_listed holder l run)) runs) all are
+    takes_all xs list all are = subst (λ (l : List (Mode × Span)). AreRunsWhere modes (λ run. passes run && not (is_listed holder l run)) runs) all are
 
-    pub puts_all : (k : ℕ) → take k list ≡ list → AreRunsWhere modes (λ run. passes run || is_listed holder (take k list) run) runs
+    pub puts_all : (xs list : List (Mode × Span)) → xs ≡ list → AreRunsWhere modes (λ run. passes run || is_listed holder xs run) runs
         → AreRunsWhere modes (λ run. passes run || is_listed holder list run) runs
-    puts_all k all are = subst (λ (l : List (Mode × Span)). AreRunsWhere modes (λ run. passes run || is_listed holder l run) runs) all are
+    puts_all xs list all are = subst (λ (l : List (Mode × Span)). AreRunsWhere modes (λ run. passes run || is_listed holder l run) runs) all are
 
-  module _ (modes : HolderModes) (passes : Run → Bool) (k : ℕ) (d : Mode × Span) (within : k < length list) (runs : List Run) where
-    pub takes_more : AreRunsWhere modes (λ run. passes run && not (is_listed holder (take k list) run)) runs
-        → AreRunsWhere modes (λ run. passes run && not (is_listed holder (take (k + 1) list) run)) (without (get_or list k d).1.first holder runs)
+  module _ (modes : HolderModes) (passes : Run → Bool) (xs : List (Mode × Span)) (x : Mode × Span) (runs : List Run) where
+    takes_more : AreRunsWhere modes (λ run. passes run && not (is_listed holder xs run)) runs
+        → AreRunsWhere modes (λ run. passes run && not (is_listed holder (xs ++ x ∷ []) run)) (without x.1.first holder runs)
     takes_more are =
-        AreRunsWhere-agrees modes _ (λ run. passes run && not (is_listed holder (take (k + 1) list) run)) (without (get_or list k d).1.first holder runs)
-        (λ run is. ap (λ b. passes run && not b) (listed_more run k d within) ∙ and_not_or (passes run) (is_listed holder (take k list) run) (has_key (get_or list k d).1.first holder run))
-        (AreRunsWhere-takes modes (λ run. passes run && not (is_listed holder (take k list) run)) (get_or list k d).1.first holder runs are)
+        AreRunsWhere-agrees modes _ (λ run. passes run && not (is_listed holder (xs ++ x ∷ []) run)) (without x.1.first holder runs)
+        (λ run is. ap (λ b. passes run && not b) (listed_more run xs x) ∙ and_not_or (passes run) (is_listed holder xs run) (has_key x.1.first holder run))
+        (AreRunsWhere-takes modes (λ run. passes run && not (is_listed holder xs run)) x.1.first holder runs are)
 
-    pub puts_more : (run : Run) → run ≡ record { span = (get_or list k d).1; number = holder.number; class = holder.class; mode = (get_or list k d).0 }
-        → IsRunOf modes run → AreRunsWhere modes (λ other. passes other || is_listed holder (take k list) other) runs
-        → AreRunsWhere modes (λ other. passes other || is_listed holder (take (k + 1) list) other) (with_run run (without run.span.first (holder_of run) runs))
+    puts_more : (run : Run) → run ≡ record { span = x.1; number = holder.number; class = holder.class; mode = x.0 }
+        → IsRunOf modes run → AreRunsWhere modes (λ other. passes other || is_listed holder xs other) runs
+        → AreRunsWhere modes (λ other. passes other || is_listed holder (xs ++ x ∷ []) other) (with_run run (without run.span.first (holder_of run) runs))
     puts_more run made is_run are =
-        AreRunsWhere-agrees modes _ (λ other. passes other || is_listed holder (take (k + 1) list) other) (with_run run (without run.span.first (holder_of run) runs))
+        AreRunsWhere-agrees modes _ (λ other. passes other || is_listed holder (xs ++ x ∷ []) other) (with_run run (without run.span.first (holder_of run) runs))
         (λ other is.
-        ap (λ b. passes other || b) (listed_more other k d within)
-        ∙ or_or (passes other) (is_listed holder (take k list) other) (has_key (get_or list k d).1.first holder other)
-        ∙ ap (λ (r : Run). (passes other || is_listed holder (take k list) other) || has_key r.span.first (holder_of r) other) (sym made))
-        (AreRunsWhere-puts modes (λ other. passes other || is_listed holder (take k list) other) run runs is_run are)
+        ap (λ b. passes other || b) (listed_more other xs x)
+        ∙ or_or (passes other) (is_listed holder xs other) (has_key x.1.first holder other)
+        ∙ ap (λ (r : Run). (passes other || is_listed holder xs other) || has_key r.span.first (holder_of r) other) (sym made))
+        (AreRunsWhere-puts modes (λ other. passes other || is_listed holder xs other) run runs is_run are)
 
     -- where the list was asked by a holder that is this one
-    pub takes_step : (new : List Run) (asked : Holder) → asked ≡ holder → new ≡ without (get_or list k d).1.first asked runs
-        → AreRunsWhere modes (λ run. passes run && not (is_listed holder (take k list) run)) runs
-        → AreRunsWhere modes (λ run. passes run && not (is_listed holder (take (k + 1) list) run)) new
+    pub takes_step : (new : List Run) (asked : Holder) → asked ≡ holder → new ≡ without x.1.first asked runs
+        → AreRunsWhere modes (λ run. passes run && not (is_listed holder xs run)) runs
+        → AreRunsWhere modes (λ run. passes run && not (is_listed holder (xs ++ x ∷ []) run)) new
     takes_step new asked same is are =
-        subst (λ (l : List Run). AreRunsWhere modes (λ run. passes run && not (is_listed holder (take (k + 1) list) run)) l)
-        (sym (is ∙ ap (λ (h : Holder). without (get_or list k d).1.first h runs) same)) (takes_more are)
+        subst (λ (l : List Run). AreRunsWhere modes (λ run. passes run && not (is_listed holder (xs ++ x ∷ []) run)) l)
+        (sym (is ∙ ap (λ (h : Holder). without x.1.first h runs) same)) (takes_more are)
 
-    pub puts_step : (new : List Run) (run : Run) → run ≡ record { span = (get_or list k d).1; number = holder.number; class = holder.class; mode = (get_or list k d).0 }
-        → new ≡ with_run run (without run.span.first (holder_of run) runs) → All (λ listed. IsRun (modes holder) listed.1.first listed.0 listed.1) list
-        → AreRunsWhere modes (λ other. passes other || is_listed holder (take k list) other) runs
-        → AreRunsWhere modes (λ other. passes other || is_listed holder (take (k + 1) list) other) new
-    puts_step new run made is each are =
-        subst (λ (l : List Run). AreRunsWhere modes (λ other. passes other || is_listed holder (take (k + 1) list) other) l) (sym is)
-        (puts_more run made (subst (λ (r : Run). IsRunOf modes r) (sym made) (each k d within)) are)
+    pub puts_step : (new : List Run) (run : Run) → run ≡ record { span = x.1; number = holder.number; class = holder.class; mode = x.0 }
+        → new ≡ with_run run (without run.span.first (holder_of run) runs) → IsRun (modes holder) x.1.first x.0 x.1
+        → AreRunsWhere modes (λ other. passes other || is_listed holder xs other) runs
+        → AreRunsWhere modes (λ other. passes other || is_listed holder (xs ++ x ∷ []) other) new
+    puts_step new run made is its are =
+        subst (λ (l : List Run). AreRunsWhere modes (λ other. passes other || is_listed holder (xs ++ x ∷ []) other) l) (sym is)
+        (puts_more run made (subst (λ (r : Run). IsRunOf modes r) (sym made) its) are)

@@ -1,5 +1,5 @@
 -- What an index of all owners' runs tells of the locks of a file, and what stays of it when these change: for `Book::set`, `Book::blocked` and others.
-use Rattle.lock_book.proofs.Common.{◌≡◌, ◌≢◌, ℕ, ◌⊎◌, inl, inr, Bool, true, false, not, ◌&&◌, ◌||◌, ◌==◌, Option, Some, None, List, [], ◌∷◌, ◌++◌, All, Any, get_or, length, map, refl, sym, ap, ◌∙◌, subst, arith, Box, Global, Result, Ok, Err, MatchOption, Bor, list_any, lookup, cases_Bool, cond-false, eq-eqb, eqb-true, not-true, nat_tests, All-nil, All-weaker, Mode, Span, RangeList, Modes, AreRuns, Covers, HeldConflicts, IsRun, modes_of, ListsStandForRuns, Holder, Run, holder_of, HolderConflict, HolderModes, Owner, Process, Description, is_same_owner, IsBefore, AreFound, modes_in_list, Blocks, ByteModes, AreRunsWhere, as_holder, holder_modes, is_listed, is_outside, modes_among, touches, Yields, TakesFirst, deref_pair}
+use Rattle.lock_book.proofs.Common.{◌≡◌, ◌≢◌, ℕ, ◌⊎◌, inl, inr, Bool, true, false, not, ◌&&◌, ◌||◌, ◌==◌, Option, Some, None, List, [], ◌∷◌, ◌++◌, All, Any, get_or, length, map, refl, sym, ap, ◌∙◌, subst, arith, Box, Global, Result, Ok, Err, MatchOption, Bor, list_any, lookup, cases_Bool, cond-false, eq-eqb, eqb-true, not-true, nat_tests, All-nil, All-weaker, Mode, Span, OwnerRuns, Modes, AreRuns, Covers, HeldConflicts, IsRun, modes_of, OwnersStandForRuns, Holder, Run, holder_of, HolderConflict, HolderModes, Owner, Process, Description, is_same_owner, IsBefore, AreFound, modes_in_list, Blocks, ByteModes, AreRunsWhere, as_holder, holder_modes, is_listed, is_outside, modes_among, touches, Yields, TakesFirst, deref_pair}
 use Rattle.std.specs.Prelude.{IfNone, IfOk, IfSome, IsSomeAnd}
 use Rattle.std.specs.Result.{result_ok}
 use Rattle.std.proofs.lemmas.Bool.{and_from, and_left, and_parts, not_from_false, or_left, or_right, false_from_ne_true}
@@ -143,12 +143,12 @@ module _ (modes : HolderModes) (runs : List Run) (are : AreRunsWhere modes (λ r
         (any.0, any.1, any.2, any.3, tells_at holder byte mode span largest.1 largest.2 any.1 (subst (λ (r : Run). IsRunOf modes r) any.3 (are.each any.0 any.1 any.2).0) any.4);
   }
 
-held_list : (list : Option RangeList) (byte : ℕ) (mode : Mode) → modes_in_list list byte ≡ Some mode → (some : RangeList) × (list ≡ Some some)
+held_list : (list : Option OwnerRuns) (byte : ℕ) (mode : Mode) → modes_in_list list byte ≡ Some mode → (some : OwnerRuns) × (list ≡ Some some)
 held_list None byte mode has = absurd (let h : None ≡ Some mode = has in cc)
 held_list (Some list) byte mode has = (list, refl)
 
 -- of lists each byte that has a mode does
-pub lists_round : ListsStandForRuns → (lists : List (Owner × RangeList)) (holder : Holder) (byte : ℕ) (mode : Mode)
+pub lists_round : OwnersStandForRuns → (lists : List (Owner × OwnerRuns)) (holder : Holder) (byte : ℕ) (mode : Mode)
     → holder_modes (modes_among lists) holder byte ≡ Some mode
     → (span : Span) × Covers span byte × IsRun (holder_modes (modes_among lists) holder) span.first mode span
 lists_round stand lists holder byte mode has = elim (holder_view holder) [
@@ -331,7 +331,7 @@ and-true true = refl
 and-true false = refl
 
 -- what is listed of an owner's list is of its modes
-module _ (modes : ByteModes) (owner : Owner) (list : RangeList) (same : (byte : ℕ) → modes owner byte ≡ modes_of list byte)
+module _ (modes : ByteModes) (owner : Owner) (list : OwnerRuns) (same : (byte : ℕ) → modes owner byte ≡ modes_of list byte)
     (listed : List (Mode × Span)) (each : All (λ run. IsRun (modes_of list) run.1.first run.0 run.1) listed) where
   each_own : All (λ run. IsRun (modes owner) run.1.first run.0 run.1) listed
   each_own =
@@ -409,13 +409,13 @@ found_in_box P (Some block) None some holds = tt
 found_in_box P (Some block) (Some lent) same holds = subst P (sym same) (holds block refl)
 
 -- where an index is kept of lists, it keeps their runs
-pub kept_by_index : (index : OwnersIndex) (lists : List (Owner × RangeList)) → AreIndexed index lists → (found : Option (Bor RunContents))
+pub kept_by_index : (index : OwnersIndex) (lists : List (Owner × OwnerRuns)) → AreIndexed index lists → (found : Option (Bor RunContents))
     → IsFoundIn index.runs found → IfSome found (λ runs. AreRunsWhere (holder_modes (modes_among lists)) (λ run. true) runs.now.runs)
 kept_by_index index lists indexed found is =
     found_in_box (λ contents. AreRunsWhere (holder_modes (modes_among lists)) (λ run. true) contents.runs) index.runs found is indexed
 
 -- and tells what each owner has
-pub told_by_index : ListsStandForRuns → (index : OwnersIndex) (lists : List (Owner × RangeList)) → AreIndexed index lists → (found : Option (Bor RunContents))
+pub told_by_index : OwnersStandForRuns → (index : OwnersIndex) (lists : List (Owner × OwnerRuns)) → AreIndexed index lists → (found : Option (Bor RunContents))
     → IsFoundIn index.runs found → IfSome found (λ runs. AreRunsOf (holder_modes (modes_among lists)) runs.now.runs)
 told_by_index stand index lists indexed found is =
     found_in_box (λ contents. AreRunsOf (holder_modes (modes_among lists)) contents.runs) index.runs found is
@@ -445,7 +445,7 @@ kept_put {E} modes passes contents (Ok block) same are = subst (λ (c : RunConte
 kept_put {E} modes passes contents (Err refused) same are = tt
 
 -- of a loop over the owners' lists
-module _ (lists : List (Owner × RangeList)) where
+module _ (lists : List (Owner × OwnerRuns)) where
   abbrev pub IsOfItems : List Item → Run → Bool
   IsOfItems items run = list_any (λ item. is_same_holder (as_holder item.0.now) (holder_of run)) items
 
@@ -484,7 +484,7 @@ module _ (lists : List (Owner × RangeList)) where
             sym (ap (λ (h : Holder). holder_modes (modes_among lists) h run.span.first) of.1 ∙ ap (λ (m : Modes). m run.span.first) (holder_at (modes_among lists) of.0))
             ∙ is.constant run.span.first is.covered in
             let list = held_list (lookup (is_same_owner of.0) lists) run.span.first run.mode has in
-            let entry = found_in_loop (λ (e : Owner × RangeList). list_any (λ item. is_same_holder (as_holder item.0.now) (as_holder e.0)) items ≡ true) lists items whole
+            let entry = found_in_loop (λ (e : Owner × OwnerRuns). list_any (λ item. is_same_holder (as_holder item.0.now) (as_holder e.0)) items ≡ true) lists items whole
             (λ k d within. list_any_at (λ item. is_same_holder (as_holder item.0.now) (as_holder (get_or items k d).0.now)) items k d within
             (is_same_holder-self (as_holder (get_or items k d).0.now))) (is_same_owner of.0) list.0 list.1 in
             let owner : entry.0 ≡ of.0 = sym (same_owner of.0 entry.0 entry.1) in
@@ -492,9 +492,9 @@ module _ (lists : List (Owner × RangeList)) where
       ])) are
 
 -- the next entry of a loop has its owner's modes
-pub modes_of_next : (owners : List (Owner × RangeList)) (items : List Item) (s t u : List (Owner × RangeList)) (r : Option Item) (x : Item) → s ≡ owners
+pub modes_of_next : (owners : List (Owner × OwnerRuns)) (items : List Item) (s t u : List (Owner × OwnerRuns)) (r : Option Item) (x : Item) → s ≡ owners
     → Yields (TakesFirst deref_pair) s items t → r ≡ Some x → TakesFirst deref_pair t r u → AreFound owners
     → (byte : ℕ) → modes_among owners x.0.now byte ≡ modes_of x.1.now byte
 modes_of_next owners items s t u r x start yields is step all byte =
-    ap (λ (l : Option RangeList). modes_in_list l byte)
+    ap (λ (l : Option OwnerRuns). modes_in_list l byte)
     (next_in_loop (λ e. lookup (is_same_owner e.0) owners ≡ Some e.1) owners items s t u r x start yields is step all)

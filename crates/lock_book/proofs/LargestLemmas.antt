@@ -1,5 +1,5 @@
 -- Largest ranges of one mode, by bytes: for the index of all owners.
-use Rattle.lock_book.proofs.Common.{◌≡◌, ◌≢◌, ℕ, ◌+◌, ◌-◌, ◌<◌, ◌≤◌, ◌⊎◌, inl, inr, zero, suc, false, Option, Some, None, List, [], ◌∷◌, refl, sym, ap, ◌∙◌, subst, arith, cases_lt, cond-false, nat_tests, Mode, Read, Write, Span, RangeList, Modes, Covers, IsRun, is_covered, modes_of, ListsStandForRuns, touches}
+use Rattle.lock_book.proofs.Common.{◌≡◌, ◌≢◌, ℕ, ◌+◌, ◌-◌, ◌<◌, ◌≤◌, ◌⊎◌, inl, inr, zero, suc, false, Option, Some, None, List, [], ◌∷◌, refl, sym, ap, ◌∙◌, subst, arith, cases_lt, cond-false, nat_tests, Mode, Read, Write, Span, OwnerRuns, Modes, Covers, IsRun, is_covered, modes_of, OwnersStandForRuns, touches}
 use Rattle.range_core.specs.Ranges.{IsConstant}
 use Rattle.range_core.specs.Changes.{mode_in}
 
@@ -141,7 +141,7 @@ ends (run ∷ runs) =
     (run.1.last + rest.0, λ byte far. cond-false (is_covered run.1 byte) (Some run.0) (mode_in runs byte) (not_covered run.1 byte (omega arith)) ∙ rest.1 byte (omega arith))
 
 -- each byte of a list that has a mode lies in a largest range
-pub list_run : ListsStandForRuns → (list : RangeList) (byte : ℕ) (mode : Mode) → modes_of list byte ≡ Some mode
+pub list_run : OwnersStandForRuns → (list : OwnerRuns) (byte : ℕ) (mode : Mode) → modes_of list byte ≡ Some mode
     → (span : Span) × Covers span byte × IsRun (modes_of list) span.first mode span
 list_run stand list byte mode at =
     let runs = stand list in

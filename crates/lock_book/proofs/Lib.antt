@@ -3,6 +3,7 @@ pub mod BlockLemmas
 pub mod BookLemmas
 pub mod Crossing
 pub mod DecideLemmas
+pub mod FirstBlockerLemmas
 pub mod FlockLemmas
 pub mod HeldLemmas
 pub mod HolderLemmas

@@ -1,5 +1,5 @@
 -- What a look-up finds once an owner's list is put, set or gone: for `OwnerLists`, and for the calls that change one owner's list.
-use Rattle.lock_book.proofs.Common.{◌≡◌, ◌∙◌, sym, ap, refl, subst, arith, cond, Bool, true, false, Option, Some, List, [], ◌∷◌, inl, inr, Box, Global, common_steps, option_map, lookup, set_value, get, cases_Bool, nat_tests, RangeList, Owner, is_same_owner, PutsFor, unboxed}
+use Rattle.lock_book.proofs.Common.{◌≡◌, ◌∙◌, sym, ap, refl, subst, arith, cond, Bool, true, false, Option, Some, List, [], ◌∷◌, inl, inr, Box, Global, common_steps, option_map, lookup, set_value, get, cases_Bool, nat_tests, OwnerRuns, Owner, is_same_owner, PutsFor, unboxed}
 use Rattle.std.specs.Prelude.{IsSome}
 use Rattle.std.specs.Cmp.{IsEquivalence}
 use Rattle.std.specs.BTreeMap.{UpdatesBy}
@@ -17,28 +17,28 @@ same_owner-laws : IsEquivalence is_same_owner
 same_owner-laws = record { refl = is_same_owner-self; symm = same_owner-back; congr = same_owner-along }
 
 -- a list that is set is put
-pub PutsFor-set : (lists : List (Owner × RangeList)) (owner : Owner) (list : RangeList) → IsSome (lookup (is_same_owner owner) lists)
+pub PutsFor-set : (lists : List (Owner × OwnerRuns)) (owner : Owner) (list : OwnerRuns) → IsSome (lookup (is_same_owner owner) lists)
     → PutsFor lists (set_value (is_same_owner owner) lists list) owner (Some list)
 PutsFor-set lists owner list there other =
     lookup-set_value same_owner-laws (is_same_owner owner) (same_owner-along owner) other list lists there
 
 -- an update of the blocks puts the list in its block, or takes it away
-pub PutsFor-updates : (old new : Blocks) (owner : Owner) (block : Option (Box RangeList Global)) → UpdatesBy owner_cmp (owner_cmp owner) old new block
+pub PutsFor-updates : (old new : Blocks) (owner : Owner) (block : Option (Box OwnerRuns Global)) → UpdatesBy owner_cmp (owner_cmp owner) old new block
     → PutsFor (unboxed old.entries) (unboxed new.entries) owner (option_map (λ b. b.value) block)
 PutsFor-updates old new owner block updates other =
     lookup-unboxed new other
-    ∙ ap (option_map (λ (b : Box RangeList Global). b.value))
+    ∙ ap (option_map (λ (b : Box OwnerRuns Global). b.value))
     (updates.0 other ∙ ap (λ test. cond test block (get owner_cmp old other)) (is_eq-owner_cmp owner other))
     ∙ mapped (is_same_owner owner other)
-    ∙ ap (λ list. cond (is_same_owner owner other) (option_map (λ (b : Box RangeList Global). b.value) block) list) (sym (lookup-unboxed old other))
+    ∙ ap (λ list. cond (is_same_owner owner other) (option_map (λ (b : Box OwnerRuns Global). b.value) block) list) (sym (lookup-unboxed old other))
   where
-    mapped : (test : Bool) → option_map (λ (b : Box RangeList Global). b.value) (cond test block (get owner_cmp old other))
-        ≡ cond test (option_map (λ (b : Box RangeList Global). b.value) block) (option_map (λ (b : Box RangeList Global). b.value) (get owner_cmp old other))
+    mapped : (test : Bool) → option_map (λ (b : Box OwnerRuns Global). b.value) (cond test block (get owner_cmp old other))
+        ≡ cond test (option_map (λ (b : Box OwnerRuns Global). b.value) block) (option_map (λ (b : Box OwnerRuns Global). b.value) (get owner_cmp old other))
     mapped true = refl
     mapped false = refl
 
 -- a list was put for one owner and another list for another; the first is still there
-pub still_there : (one other : Owner) (list added : RangeList) (none first both : List (Owner × RangeList)) → PutsFor none first one (Some list)
+pub still_there : (one other : Owner) (list added : OwnerRuns) (none first both : List (Owner × OwnerRuns)) → PutsFor none first one (Some list)
     → PutsFor first both other (Some added) → is_same_owner other one ≡ false → IsSome (lookup (is_same_owner one) both)
 still_there one other list added none first both puts adds apart =
     let found : lookup (is_same_owner one) both ≡ Some list =
@@ -47,7 +47,7 @@ still_there one other list added none first both puts adds apart =
     rw found refl
 
 -- so once it is set, the other's was added
-pub PutsFor-second : (one other : Owner) (list empty added : RangeList) (first both all : List (Owner × RangeList)) → PutsFor [] first one (Some empty)
+pub PutsFor-second : (one other : Owner) (list empty added : OwnerRuns) (first both all : List (Owner × OwnerRuns)) → PutsFor [] first one (Some empty)
     → PutsFor first both other (Some added) → PutsFor both all one (Some list) → is_same_owner other one ≡ false
     → PutsFor ((one, list) ∷ []) all other (Some added)
 PutsFor-second one other list empty added first both all puts adds sets apart owner = elim (cases_Bool (is_same_owner one owner)) [

@@ -1,5 +1,5 @@
 -- The locks of a book are those that some changes leave, so no clause that speaks of those is empty: for `books_stand_for_some`.
-use Rattle.lock_book.proofs.Common.{common_steps, arith, ◌≡◌, ℕ, ◌==◌, ◌&&◌, Bool, true, false, refl, Option, Some, None, List, [], ◌∷◌, ◌++◌, not, All, if◌then◌else◌, lookup, nat_tests, All-nil, All-cons, All-append, Mode, Span, RangeList, ListsStandForRuns, Owner, is_same_owner, modes_in_list, byte_modes_of, flock_modes_of, list_of, place_of}
+use Rattle.lock_book.proofs.Common.{common_steps, arith, ◌≡◌, ℕ, ◌==◌, ◌&&◌, Bool, true, false, refl, Option, Some, None, List, [], ◌∷◌, ◌++◌, not, All, if◌then◌else◌, lookup, nat_tests, All-nil, All-cons, All-append, Mode, Span, OwnerRuns, OwnersStandForRuns, Owner, is_same_owner, modes_in_list, byte_modes_of, flock_modes_of, list_of, place_of}
 use Rattle.std.proofs.Common.{filter}
 use Rattle.std.proofs.lemmas.List.Elements.{All-filter}
 use Rattle.range_core.specs.Changes.{mode_in as mode_in_runs}
@@ -80,11 +80,11 @@ other_without before owner other (change ∷ changes) file byte differs =
     by_owner false is rest = rw is (rest (if sets_byte change file other byte then change.mode else before))
 
 -- the sets of all owners: an owner's own are those of its first list, which is the one that is found
-all_sets : ListsStandForRuns → ℕ → List (Owner × RangeList) → List Change
+all_sets : OwnersStandForRuns → ℕ → List (Owner × OwnerRuns) → List Change
 all_sets law file [] = []
 all_sets law file (entry ∷ entries) = without entry.0 (all_sets law file entries) ++ sets_of file entry.0 (law entry.1).0
 
-all_sets-file : (law : ListsStandForRuns) (file : ℕ) (entries : List (Owner × RangeList)) → All (λ change. change.file ≡ file) (all_sets law file entries)
+all_sets-file : (law : OwnersStandForRuns) (file : ℕ) (entries : List (Owner × OwnerRuns)) → All (λ change. change.file ≡ file) (all_sets law file entries)
 unfolding all_sets
 all_sets-file law file [] = All-nil (λ (change : Change). change.file ≡ file)
 all_sets-file law file (entry ∷ entries) =
@@ -93,7 +93,7 @@ all_sets-file law file (entry ∷ entries) =
     (All-filter (λ change. not (is_same_owner change.owner entry.0)) Here (all_sets law file entries) (all_sets-file law file entries))
     (sets_of-file file entry.0 (law entry.1).0)
 
-all_sets-modes : (law : ListsStandForRuns) (file : ℕ) (entries : List (Owner × RangeList)) (owner : Owner) (byte : ℕ)
+all_sets-modes : (law : OwnersStandForRuns) (file : ℕ) (entries : List (Owner × OwnerRuns)) (owner : Owner) (byte : ℕ)
     → modes_in_list (lookup (is_same_owner owner) entries) byte ≡ mode_in (all_sets law file entries) file owner byte
 unfolding all_sets
 all_sets-modes law file [] owner byte = refl
@@ -127,7 +127,7 @@ flock_sets-modes file (place ∷ places) description =
     grind (arith, common_steps, flock_mode_from-append None (flock_sets file places) (record { file = file; description = place.0; mode = place.1 } ∷ []) file description, flock_sets-modes file places description, nat_tests)
 
 -- any book stands for the locks that some changes leave
-pub stand_for_some : ListsStandForRuns → BooksStandForSome
+pub stand_for_some : OwnersStandForRuns → BooksStandForSome
 unfolding byte_modes_of flock_modes_of list_of place_of
 stand_for_some law book file =
     let lists = book.owners in

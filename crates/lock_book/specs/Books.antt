@@ -3,7 +3,7 @@ use Rattle.std.specs.Prelude.{◌≡◌, ◌≢◌, ℕ, ◌==◌, ◌&&◌, ◌
 use Rattle.std.specs.Map.{lookup}
 use Rattle.range_core.specs.declared.Mode.{Mode}
 use Rattle.range_core.specs.declared.Span.{Span}
-use Rattle.range_core.specs.declared.list.RangeList.{RangeList}
+use Rattle.owner_runs.specs.declared.owner_runs.OwnerRuns.{OwnerRuns}
 use Rattle.range_core.specs.Changes.{is_covered}
 use Rattle.lock_book.specs.declared.Owner.{Owner}
 use Rattle.lock_book.specs.declared.book.Book.{Book}
@@ -13,7 +13,7 @@ use Rattle.lock_book.specs.Conflicts.{ByteModes, FlockModes}
 use Rattle.lock_book.specs.Holders.{place_among, mode_in_place}
 
 -- the list of modes that a book keeps for the owner
-unfoldable pub list_of : Book → Owner → Option RangeList
+unfoldable pub list_of : Book → Owner → Option OwnerRuns
 list_of book owner = lookup (is_same_owner owner) book.owners
 
 -- the byte locks that a book stands for

@@ -1,13 +1,13 @@
 -- What an index keeps of the byte locks on one file (the words are this project's choice).
-use Rattle.std.specs.Prelude.{◌≡◌, ℕ, ◌+◌, ◌<◌, ◌≤◌, ◌==◌, ◌&&◌, Bool, true, not, if◌then◌else◌, Some, None, List, All, length}
+use Rattle.std.specs.Prelude.{◌≡◌, ℕ, ◌+◌, ◌==◌, ◌&&◌, Bool, true, not, if◌then◌else◌, Some, None, List, All}
 use Rattle.std.specs.Bool.{nat_le}
-use Rattle.std.specs.List.{AllWithin, list_any}
+use Rattle.std.specs.List.{list_any}
 use Rattle.std.specs.Map.{lookup}
 use Rattle.std.specs.declared.alloc.Global.{Global}
 use Rattle.std.specs.declared.boxed.Box.{Box}
 use Rattle.std.proofs.Props.{props}
 use Rattle.range_core.specs.declared.Span.{Span}
-use Rattle.range_core.specs.declared.list.RangeList.{RangeList}
+use Rattle.owner_runs.specs.declared.owner_runs.OwnerRuns.{OwnerRuns}
 use Rattle.range_core.specs.declared.Mode.{Mode}
 use Rattle.range_core.specs.Ranges.{IsRun}
 use Rattle.interval_index.specs.declared.Holder.{Holder}
@@ -34,7 +34,7 @@ holder_modes modes holder =
     if holder.class == 0 then modes (Process holder.number) else (if holder.class == 1 then modes (Description holder.number) else (λ byte. None))
 
 -- the byte locks that these lists stand for
-abbrev pub modes_among : List (Owner × RangeList) → ByteModes
+abbrev pub modes_among : List (Owner × OwnerRuns) → ByteModes
 modes_among lists owner = modes_in_list (lookup (is_same_owner owner) lists)
 
 -- the run is a largest range on all of which its owner has this one mode
@@ -44,14 +44,6 @@ IsRunOf modes run = IsRun (modes (holder_of run)) run.span.first run.mode run.sp
 -- whether the other range shares a byte with this one, or lies right beside it
 abbrev pub touches : Span → Span → Bool
 touches span other = nat_le other.first (span.last + 1) && nat_le span.first (other.last + 1)
-
--- of the runs just those from this place to that one touch the range
-pub record AreTouched (runs : List (Mode × Span)) (span : Span) (start end : ℕ) : Type 0 where
-  pub ordered : start ≤ end
-  pub within : end ≤ length runs
-  pub before : AllWithin (λ run. run.1.last + 1 < span.first) runs 0 start
-  pub between : AllWithin (λ run. touches span run.1 ≡ true) runs start end
-  pub behind : AllWithin (λ run. span.last + 1 < run.1.first) runs end (length runs)
 
 -- whether the run is another owner's
 abbrev pub is_others : Holder → Run → Bool
@@ -88,9 +80,9 @@ abbrev pub IsKeptWithout : OwnersIndex → ByteModes → Owner → Type 0
 IsKeptWithout index modes owner = IsKeptWhere index modes (is_others (as_holder owner))
 
 -- it keeps the runs of all lists
-abbrev pub AreIndexed : OwnersIndex → List (Owner × RangeList) → Type 0
+abbrev pub AreIndexed : OwnersIndex → List (Owner × OwnerRuns) → Type 0
 AreIndexed index lists = IsKeptAs index (modes_among lists)
 
 -- it does so in one way at most
-pub AreIndexed-prop : (index : OwnersIndex) (lists : List (Owner × RangeList)) → IsProp (AreIndexed index lists)
+pub AreIndexed-prop : (index : OwnersIndex) (lists : List (Owner × OwnerRuns)) → IsProp (AreIndexed index lists)
 AreIndexed-prop index lists = hlevel props

@@ -4,8 +4,8 @@ use Rattle.std.specs.Borrow.{LendsSo, MutBor, Fml}
 use Rattle.std.specs.Map.{set_value}
 use Rattle.std.specs.declared.alloc.Global.{Global}
 use Rattle.std.specs.declared.boxed.Box.{Box}
-use Rattle.range_core.specs.declared.list.RangeList.{RangeList}
-use Rattle.range_core.specs.contracts.list.RangeList as list
+use Rattle.owner_runs.specs.declared.owner_runs.OwnerRuns.{OwnerRuns}
+use Rattle.owner_runs.specs.contracts.owner_runs.OwnerRuns as list
 use Rattle.lock_book.specs.declared.Owner.{Owner}
 use Rattle.lock_book.specs.declared.book.lists.OwnedList.{OwnedList}
 use Rattle.lock_book.specs.declared.book.lists.Kept.{Kept}
@@ -16,26 +16,26 @@ use Rattle.lock_book.specs.contracts.book.lists.Kept as contracts
 use Rattle.lock_book.specs.Owners.{is_same_owner}
 
 -- an owner with its list
-abbrev pub pair_of : OwnedList → Owner × RangeList
+abbrev pub pair_of : OwnedList → Owner × OwnerRuns
 pair_of one = (one.owner, one.list)
 
 -- owners with the lists in their blocks
-abbrev pub unboxed : List (Owner × Box RangeList Global) → List (Owner × RangeList)
+abbrev pub unboxed : List (Owner × Box OwnerRuns Global) → List (Owner × OwnerRuns)
 unboxed lists = map (λ one. (one.0, one.1.value)) lists
 
 -- the owners with their lists
-abbrev pub lists_in : Kept → List (Owner × RangeList)
+abbrev pub lists_in : Kept → List (Owner × OwnerRuns)
 lists_in kept.Nothing = []
 lists_in (kept.One one) = pair_of one ∷ []
 lists_in (kept.Many lists) = unboxed lists.entries
 
 -- those that are still to come
-abbrev pub lists_left : Left → List (Owner × RangeList)
+abbrev pub lists_left : Left → List (Owner × OwnerRuns)
 lists_left (left.One None) = []
 lists_left (left.One (Some one)) = pair_of one.now ∷ []
 lists_left (left.Many lists) = unboxed lists
 
 -- once the borrow ends, the owner has the list that was left behind it
-abbrev pub LendsKept : MutBor Kept → Owner → Option (MutBor RangeList) → Fml
+abbrev pub LendsKept : MutBor Kept → Owner → Option (MutBor OwnerRuns) → Fml
 LendsKept old owner lent = LendsSo contracts.the_row list.the_row old lent
     (λ new left. OnSome lent (lists_in new ≡ set_value (is_same_owner owner) (lists_in old.now) left)) (λ new. lists_in new ≡ lists_in old.now)

@@ -72,7 +72,7 @@ impl Book {
         ensures { IsTrue result ↔ ((owner : Owner) (byte : ℕ) → byte_modes_of self.now owner byte ≡ None) }
     {
         for (_, list) in self.owners.iter() {
-            if !list.runs().is_empty() {
+            if !list.is_empty() {
                 return false;
             }
         }

@@ -3,7 +3,7 @@ ghost use Rattle.lock_book.specs.Decided.{ByteConflictIsDecided, FlockConflictIs
 ghost use Rattle.lock_book.specs.OneReport.{LocksHaveOneFileReport, LocksHaveOneReport};
 ghost use Rattle.lock_book.specs.SomeChanges.{BooksStandForSome};
 
-use range_core::lists_stand_for_runs;
+use owner_runs::owners_stand_for_runs;
 
 /// The locks that are held on one file have one report, that of [`crate::Book::held`]: two reports of the same locks have the
 /// same lines in the same order.
@@ -29,5 +29,5 @@ pub fn conflicts_are_decided()
 pub fn books_stand_for_some()
     ensures { BooksStandForSome }
 {
-    lists_stand_for_runs();
+    owners_stand_for_runs();
 }

@@ -14,7 +14,8 @@ use crate::sections::Sections;
 use crate::{InTheWay, Note, ProcState, Request, Rules, Visit};
 use fd_table::Look;
 use lock_book::{Held, Owner};
-use range_core::{Memory, Mode, RangeList};
+use owner_runs::OwnerRuns;
+use range_core::{Memory, Mode};
 use std::alloc::Global;
 use wait_core::{ProcessSet, Wait};
 
@@ -120,7 +121,7 @@ impl Manager {
 
     /// The byte locks of the owner on the file, as the runs of a list: `None`, or a list without runs, where it has none there. It takes no
     /// memory (POSIX.1-2017 fcntl, DESCRIPTION; fcntl_locking(2)).
-    pub fn byte_locks(&self, file: u8, owner: Owner) -> Option<&RangeList>
+    pub fn byte_locks(&self, file: u8, owner: Owner) -> Option<&OwnerRuns>
         ensures { (S : State) → StandsFor self.now S → (byte : ℕ)
             → modes_in_list (option_copied result) byte ≡ mode_in S.changes file owner byte }
     {

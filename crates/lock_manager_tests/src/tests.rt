@@ -313,7 +313,7 @@ fn is_told_alone(manager: &Manager, lock: &Held) -> bool {
     let run = (lock.mode, lock.span);
     match manager.byte_locks(lock.file, lock.owner) {
         Some(list) => {
-            list.runs().iter().any(|other| *other == run)
+            list.runs().any(|other| other == run)
                 && manager.byte_locks(beside, lock.owner).is_none()
         }
         None => false,

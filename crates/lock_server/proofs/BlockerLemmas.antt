@@ -1,6 +1,6 @@
 -- The owners for which a wait on a file waits: for `add_steps`, `add_blockers`, `add_holders` and what that calls, `add_conflicting`.
 use Rattle.lock_server.proofs.Common.{ℕ, ◌≡◌, ◌≢◌, ◌+◌, ◌<◌, ◌≤◌, ◌∙◌, ◌⊎◌, inl, inr, sym, ap, refl, subst, arith, suc, true, false, Option, Some, None, List, [], ◌∷◌, ◌++◌, Any, Contains, length, take, drop, map, ◌↔◌, IfNone, IfSome, IsTrue, is_some, slice_get, Bor, keys_of, deref_pair, cases_eq, cases_lt, take_at, length-append, map-append, Contains-append_left, Contains-push, Contains-push_cases, slice_get-get_or, slice_get_within, get_or_from_slice_get}
-use Rattle.lock_server.proofs.Common.{Mode, Span, RangeList, Conflict, Covers, HeldConflicts, IsByteRange, Modes, Owner, Description, WaitsConflict, Family, Bytes, Whole, Policy, FlockLock, Lock, Pending, LockFile, AddsOwners, BlocksBefore, BlocksOn, IsFlockHolder, BlocksIn, IsBlockedByOwner, WaitsForOn, FileState, file_state, EndsBefore, IsFirstFrom, IsFlockLock, flock_place, as_wait}
+use Rattle.lock_server.proofs.Common.{Mode, Span, OwnerRuns, Conflict, Covers, HeldConflicts, IsByteRange, Modes, Owner, Description, WaitsConflict, Family, Bytes, Whole, Policy, FlockLock, Lock, Pending, LockFile, AddsOwners, BlocksBefore, BlocksOn, IsFlockHolder, BlocksIn, IsBlockedByOwner, WaitsForOn, FileState, file_state, EndsBefore, IsFirstFrom, IsFlockLock, flock_place, as_wait}
 use Rattle.std.proofs.Common.{min, max}
 use Rattle.std.proofs.lemmas.List.{get_or_at}
 use Rattle.range_core.specs.Ranges.{IsFirstHit}
@@ -219,16 +219,16 @@ pub by_flock : (F : FileState) (wait : Pending) → wait.family ≡ Whole → (o
 by_flock F wait is other = subst (λ (f : Family). IsFlockHolder F wait.owner wait.mode other ↔ BlocksIn f F wait other) (sym is) (blocks_by_flock F wait other)
 
 -- of the lists so far the owner is one that blocks
-pub record IsListedHolder (F : FileState) (owner : ℕ) (span : Span) (wanted : Mode) (entries : List (Bor Owner × Bor RangeList)) (other : ℕ) : Type 0 where
+pub record IsListedHolder (F : FileState) (owner : ℕ) (span : Span) (wanted : Mode) (entries : List (Bor Owner × Bor OwnerRuns)) (other : ℕ) : Type 0 where
   pub listed : Contains (map (λ e. e.0.now) entries) (Description other)
   pub blocks : BlocksOn F owner span wanted other
 
-module _ (F : FileState) (owner : ℕ) (span : Span) (wanted : Mode) (entries : List (Bor Owner × Bor RangeList)) (entry : Bor Owner × Bor RangeList) where
-  abbrev Keys : List (Bor Owner × Bor RangeList) → List Owner
+module _ (F : FileState) (owner : ℕ) (span : Span) (wanted : Mode) (entries : List (Bor Owner × Bor OwnerRuns)) (entry : Bor Owner × Bor OwnerRuns) where
+  abbrev Keys : List (Bor Owner × Bor OwnerRuns) → List Owner
   Keys es = map (λ e. e.0.now) es
 
   one_more : Keys (entries ++ entry ∷ []) ≡ Keys entries ++ entry.0.now ∷ []
-  one_more = map-append (λ (e : Bor Owner × Bor RangeList). e.0.now) entries (entry ∷ [])
+  one_more = map-append (λ (e : Bor Owner × Bor OwnerRuns). e.0.now) entries (entry ∷ [])
 
   -- one list more, of an owner that blocks just where it is added
   pub listed_more : (old mid new : List ℕ) → AddsOwners old mid (IsListedHolder F owner span wanted entries)
@@ -275,7 +275,7 @@ module _ (F : FileState) (owner : ℕ) (span : Span) (wanted : Mode) (entries : 
       (λ other here. description_same other number (sym here.0 ∙ is)))
 
 -- all lists were looked at
-keys_shown : (entries : List (Bor Owner × Bor RangeList)) → map (λ e. e.0.now) entries ≡ keys_of (map deref_pair entries)
+keys_shown : (entries : List (Bor Owner × Bor OwnerRuns)) → map (λ e. e.0.now) entries ≡ keys_of (map deref_pair entries)
 keys_shown [] = refl
 keys_shown (entry ∷ entries) = ap (λ (l : List Owner). entry.0.now ∷ l) (keys_shown entries)
 
@@ -301,7 +301,7 @@ no_hit F owner span wanted other modes (Some byte) is none same blocks = let h :
 no_hit F owner span wanted other modes None is none same blocks =
     none blocks.byte blocks.covered (subst (λ (held : Option Mode). HeldConflicts held wanted) (sym (same blocks.byte)) blocks.conflicts)
 
-pub listed_all : (file : LockFile) (owner : ℕ) (span : Span) (wanted : Mode) (lists : List (Owner × RangeList)) (entries : List (Bor Owner × Bor RangeList))
+pub listed_all : (file : LockFile) (owner : ℕ) (span : Span) (wanted : Mode) (lists : List (Owner × OwnerRuns)) (entries : List (Bor Owner × Bor OwnerRuns))
     (old new : List ℕ) → HaveModes file.book lists → map deref_pair entries ≡ lists
     → AddsOwners old new (IsListedHolder (file_state file) owner span wanted entries) → AddsOwners old new (BlocksOn (file_state file) owner span wanted)
 unfolding file_state
@@ -313,7 +313,7 @@ listed_all file owner span wanted lists entries old new have whole adds =
       λ blocks.
           let held = held_mode (F.bytes other blocks.byte) wanted blocks.conflicts in
           record {
-            listed = subst (λ (ks : List Owner). Contains ks (Description other)) (sym (keys_shown entries ∙ ap (λ (l : List (Owner × RangeList)). keys_of l) whole))
+            listed = subst (λ (ks : List Owner). Contains ks (Description other)) (sym (keys_shown entries ∙ ap (λ (l : List (Owner × OwnerRuns)). keys_of l) whole))
                 (list_there file.book lists (Description other) have blocks.byte held.0 held.1);
             blocks = blocks;
           },

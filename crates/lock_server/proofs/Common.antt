@@ -106,12 +106,12 @@ pub use Rattle.lock_server.specs.declared.tickets.Tickets.{Tickets}
 pub use Rattle.lock_server.specs.declared.waiters.Waiter.{Waiter}
 pub use Rattle.lock_server.specs.declared.waiters.Waiters.{Waiters}
 pub use Rattle.range_core.specs.Changes.{is_covered}
-unfoldable pub use Rattle.range_core.specs.Changes.{modes_of}
+unfoldable pub use Rattle.owner_runs.specs.Lists.{modes_of}
 pub use Rattle.range_core.specs.Ranges.{AreRuns, Conflict, Covers, HeldConflicts, IsByteRange, IsRun, Modes}
 pub use Rattle.range_core.specs.declared.Mode.{Mode}
 pub use Rattle.range_core.specs.declared.Mode.TheVariants.{Read, Write}
 pub use Rattle.range_core.specs.declared.Span.{Span}
-pub use Rattle.range_core.specs.declared.list.RangeList.{RangeList}
+pub use Rattle.owner_runs.specs.declared.owner_runs.OwnerRuns.{OwnerRuns}
 pub use Rattle.wait_core.specs.Blocking.{IsBlockedIn, WaitsConflict}
 pub use Rattle.wait_core.specs.Cycles.{IsChain}
 pub use Rattle.wait_core.specs.declared.Family.{Family}

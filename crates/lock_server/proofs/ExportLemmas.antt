@@ -1,6 +1,6 @@
 -- What the loops of an export go over, and what they put of it.
 use Rattle.lock_server.proofs.Common.{ℕ, suc, ◌≡◌, ◌<◌, ◌≤◌, ◌+◌, ◌*◌, ◌^◌, ◌∙◌, take, drop, sym, ap, subst, refl, arith, inl, inr, true, false, Option, Some, None, List, [], ◌∷◌, ◌++◌, All, length, map, get_or, common_steps, flat_map-append, AllPairs, IsTrue, is_some, get, Bor, flat_map, keys_of, lookup, deref_pair, nat_cmp, nat_tests, cases_lt, get_or_default, length-append, length-map, length-take-le, take-append-drop, take_at, all_pairs_push, AllPairs-cons, All-head, All-tail, All-weaker, Contains-append_left, Contains-push, Contains-push_cases}
-use Rattle.lock_server.proofs.Common.{Mode, Span, RangeList, modes_of, AreRuns, Covers, IsRun, Modes, Owner, Description, Book, byte_modes_of, is_same_owner, modes_in_list, FlockLock, Lock, Pending, Rules, LockFile, Files, Table, Waiter, Waiters, IsExport, family_word, file_words, flag_word, flock_words, listed, lock_words, mode_word, note_words, number_words, wait_words, file_state, state_at, entry_in, FileState, SameFile, untouched, AreByteLocks, AreFiles, AreJust, FileEntry, IsInventory, Note, SaysFile, entry_place, note_place, EndsBefore, IsByteLock, IsEarlier, IsFirstFrom, IsFlockLock, IsNextFrom, flock_place, lock_place, open_of, through_at, State, AreSwept, entry_of, table_state, crossed_of, waiter_of, Puts, PutsSome, bytes_of, greatest}
+use Rattle.lock_server.proofs.Common.{Mode, Span, OwnerRuns, modes_of, AreRuns, Covers, IsRun, Modes, Owner, Description, Book, byte_modes_of, is_same_owner, modes_in_list, FlockLock, Lock, Pending, Rules, LockFile, Files, Table, Waiter, Waiters, IsExport, family_word, file_words, flag_word, flock_words, listed, lock_words, mode_word, note_words, number_words, wait_words, file_state, state_at, entry_in, FileState, SameFile, untouched, AreByteLocks, AreFiles, AreJust, FileEntry, IsInventory, Note, SaysFile, entry_place, note_place, EndsBefore, IsByteLock, IsEarlier, IsFirstFrom, IsFlockLock, IsNextFrom, flock_place, lock_place, open_of, through_at, State, AreSwept, entry_of, table_state, crossed_of, waiter_of, Puts, PutsSome, bytes_of, greatest}
 use Rattle.std.proofs.Common.{min}
 use Rattle.std.specs.Prelude.{◌⊎◌, Any, Contains}
 use Rattle.std.specs.BTreeMap.{IsOrdered}
@@ -23,7 +23,7 @@ use Rattle.lock_server.proofs.JustLemmas.{All-at, AllPairs-nil, Contains-cons, C
 use Rattle.lock_server.proofs.ListLemmas.{Any-nil, Any-here, Any-there, Any-cons}
 use Rattle.lock_server.proofs.StateLemmas.{SameFile-itself}
 use Rattle.lock_server.proofs.WalkLemmas.{Walked, key_there, walked_all, walked_just, walked_keys}
-use Rattle.lock_server.proofs.WordLemmas.{items_all, length-bytes_of, puts_append, puts_none}
+use Rattle.lock_server.proofs.WordLemmas.{length-bytes_of, puts_append, puts_none}
 
 -- crossed owners
 
@@ -226,34 +226,34 @@ runs_are F owner modes runs same told =
     }
 
 -- the owners of lists rise with them
-rising_owners : (lists : List (Owner × RangeList)) → AreRising lists → AllPairs IsBefore (keys_of lists)
+rising_owners : (lists : List (Owner × OwnerRuns)) → AreRising lists → AllPairs IsBefore (keys_of lists)
 rising_owners [] rising = AllPairs-nil IsBefore
 rising_owners (one ∷ lists) rising =
     AllPairs-cons IsBefore one.0 (keys_of lists)
-    (All-map (IsBefore one.0) (λ (other : Owner × RangeList). other.0) lists (λ k d within. rising 0 (suc k) d (omega arith) (omega arith)))
+    (All-map (IsBefore one.0) (λ (other : Owner × OwnerRuns). other.0) lists (λ k d within. rising 0 (suc k) d (omega arith) (omega arith)))
     (rising_owners lists (λ i j d less within. rising (suc i) (suc j) d (omega arith) (omega arith)))
 
 same_owner : (one other : Owner) → is_same_owner one other ≡ true → one ≡ other
 same_owner one other h = grind (arith, common_steps, nat_tests)
 
 -- the lists of a book by owner have its modes
-abbrev pub HaveModes : Book → List (Owner × RangeList) → Type 0
+abbrev pub HaveModes : Book → List (Owner × OwnerRuns) → Type 0
 HaveModes book lists = (owner : Owner) (byte : ℕ) → modes_in_list (lookup (is_same_owner owner) lists) byte ≡ byte_modes_of book owner byte
 
-pub modes_there : (book : Book) (lists : List (Owner × RangeList)) (owner : Owner) (list : RangeList) → HaveModes book lists
+pub modes_there : (book : Book) (lists : List (Owner × OwnerRuns)) (owner : Owner) (list : OwnerRuns) → HaveModes book lists
     → lookup (is_same_owner owner) lists ≡ Some list → (byte : ℕ) → modes_of list byte ≡ byte_modes_of book owner byte
-modes_there book lists owner list have there byte = ap (λ (o : Option RangeList). modes_in_list o byte) (sym there) ∙ have owner byte
+modes_there book lists owner list have there byte = ap (λ (o : Option OwnerRuns). modes_in_list o byte) (sym there) ∙ have owner byte
 
-pub list_there : (book : Book) (lists : List (Owner × RangeList)) (owner : Owner) → HaveModes book lists → (byte : ℕ) (mode : Mode)
+pub list_there : (book : Book) (lists : List (Owner × OwnerRuns)) (owner : Owner) → HaveModes book lists → (byte : ℕ) (mode : Mode)
     → byte_modes_of book owner byte ≡ Some mode → Contains (keys_of lists) owner
 list_there book lists owner have byte mode has =
     there (lookup (is_same_owner owner) lists) refl (have owner byte ∙ has)
   where
-    there : (found : Option RangeList) → lookup (is_same_owner owner) lists ≡ found → modes_in_list found byte ≡ Some mode
+    there : (found : Option OwnerRuns) → lookup (is_same_owner owner) lists ≡ found → modes_in_list found byte ≡ Some mode
         → Contains (keys_of lists) owner
     there None is held = absurd (let h : None ≡ Some mode = held in cc)
     there (Some list) is held =
-        Contains-keys_from_lookup {eq = is_same_owner} same_owner owner lists (ap (λ (o : Option RangeList). is_some o) is)
+        Contains-keys_from_lookup {eq = is_same_owner} same_owner owner lists (ap (λ (o : Option OwnerRuns). is_some o) is)
 
 -- the locks of one owner; a process has none
 pub record IsLockPiece (F : FileState) (locks : Owner × List Lock) : Type 0 where
@@ -276,22 +276,22 @@ pub owner_piece_of : (F : FileState) (owner : Owner) (number : ℕ) (locks : Lis
 owner_piece_of F owner number locks is are = subst (λ (o : Owner). IsLockPiece F (o, locks)) (sym is) (owner_piece F number locks are)
 
 -- the list of an owner has its modes on the file
-pub list_modes : (file : LockFile) (lists : List (Owner × RangeList)) (owner : Owner) (number : ℕ) (list : RangeList) → HaveModes file.book lists
+pub list_modes : (file : LockFile) (lists : List (Owner × OwnerRuns)) (owner : Owner) (number : ℕ) (list : OwnerRuns) → HaveModes file.book lists
     → owner ≡ Description number → lookup (is_same_owner owner) lists ≡ Some list → (byte : ℕ) → modes_of list byte ≡ (file_state file).bytes number byte
 unfolding file_state
 list_modes file lists owner number list have is there byte =
     modes_there file.book lists owner list have there byte ∙ ap (λ (o : Owner). byte_modes_of file.book o byte) is
 
 -- the locks of one owner, put run by run
-pub runs_put : (F : FileState) (owner : ℕ) (modes : Modes) (runs : List (Mode × Span)) (i : ℕ) (old new : List ℕ) (at next : ℕ)
-    → ((byte : ℕ) → modes byte ≡ F.bytes owner byte) → AreRuns modes runs → length runs ≤ i
-    → Puts (flat_map (λ run. lock_words (lock_of owner run)) (take i runs)) old at new next
+pub runs_put : (F : FileState) (owner : ℕ) (modes : Modes) (runs xs : List (Mode × Span)) (old new : List ℕ) (at next : ℕ)
+    → ((byte : ℕ) → modes byte ≡ F.bytes owner byte) → AreRuns modes runs → xs ≡ runs
+    → Puts (flat_map (λ run. lock_words (lock_of owner run)) xs) old at new next
     → PutsSome (AreLocksOf F owner) (flat_map lock_words) old at new next
-runs_put F owner modes runs i old new at next same are beyond puts = record {
+runs_put F owner modes runs xs old new at next same are whole puts = record {
   what = map (lock_of owner) runs;
   is = runs_are F owner modes runs same are;
   puts = subst (λ (l : List ℕ). Puts l old at new next) (sym (flat_map-map lock_words (lock_of owner) runs))
-      (items_all (λ run. lock_words (lock_of owner run)) [] runs i old new at next beyond puts);
+      (subst (λ (l : List (Mode × Span)). Puts (flat_map (λ run. lock_words (lock_of owner run)) l) old at new next) whole puts);
 }
 
 -- a wait, of which some words were told
@@ -334,7 +334,7 @@ lock_joined F owner byte mode (piece ∷ pieces) each known has =
     ]
 
 -- a loop over the lists put just the byte locks
-pub all_locks : (file : LockFile) (lists : List (Owner × RangeList)) (entries : List (Bor Owner × Bor RangeList)) (spell : Lock → List ℕ) (old new : List ℕ)
+pub all_locks : (file : LockFile) (lists : List (Owner × OwnerRuns)) (entries : List (Bor Owner × Bor OwnerRuns)) (spell : Lock → List ℕ) (old new : List ℕ)
     (at next : ℕ) → HaveModes file.book lists → AreRising lists → map deref_pair entries ≡ lists
     → Walked (IsLockPiece (file_state file)) spell entries old at new next
     → PutsSome (AreByteLocks (file_state file)) (flat_map spell) old at new next

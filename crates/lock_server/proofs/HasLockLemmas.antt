@@ -54,24 +54,15 @@ pub flock_told : (F : FileState) (owner : ℕ) (mode : Option Mode) → mode ≡
 flock_told F owner None is = (λ some. absurd (let h : false ≡ true = some in cc), λ has. absurd (no_flock_lock F owner (sym is) has))
 flock_told F owner (Some mode) is = (λ some. record { mode = mode; is = sym is }, λ has. refl)
 
--- by the runs of a list
-pub runs_told : (F : FileState) (owner : ℕ) (modes : Modes) (runs : List (Mode × Span)) → AreRuns modes runs
-    → ((byte : ℕ) → modes byte ≡ F.bytes owner byte) → (empty : Bool) → empty ≡ (length runs == 0) → IsTrue (not empty) ↔ HasByteLock F owner
-runs_told F owner modes [] are same empty test = (
-  λ some. absurd (let e : empty ≡ true = test in let h : false ≡ true = sym (ap not e) ∙ some in cc),
-  λ has. absurd (let any = are.every has.byte has.mode (same has.byte ∙ has.is) in let inside : any.0 < 0 = any.2 in omega arith),
+-- by a list of which it is known whether it is empty
+pub list_told : (F : FileState) (owner : ℕ) (modes : Modes) → ((byte : ℕ) → modes byte ≡ F.bytes owner byte) → (empty : Bool)
+    → IsTrue empty ↔ ((byte : ℕ) → modes byte ≡ None) → (empty ≡ false → (byte : ℕ) × (mode : Mode) × (modes byte ≡ Some mode))
+    → IsTrue (not empty) ↔ HasByteLock F owner
+list_told F owner modes same true free held = (
+  λ some. absurd (let h : false ≡ true = some in cc),
+  λ has. absurd (no_byte_lock F owner (λ byte. sym (same byte) ∙ free.0 refl byte) has),
 )
-runs_told F owner modes (run ∷ runs) are same empty test = (
-  λ some. record {
-    byte = run.1.first;
-    mode = run.0;
-    is = sym (same run.1.first) ∙ (let first = are.each 0 run (let n = length runs in omega arith) in first.constant run.1.first first.covered);
-  },
-  λ has. (let e : empty ≡ false = test ∙ not_empty runs in ap not e),
-)
-  where
-    not_empty : (more : List (Mode × Span)) → (length (run ∷ more) == 0) ≡ false
-    not_empty more = grind (arith, nat_tests)
+list_told F owner modes same false free held = (λ some. let h = held refl in record { byte = h.0; mode = h.1; is = sym (same h.0) ∙ h.2 }, λ has. refl)
 
 -- on one file and on all
 pub on_file : (F : FileState) (first last : ℕ) (bytes flocks result : Bool) → IsTrue bytes ↔ OneWithin first last (HasByteLock F)

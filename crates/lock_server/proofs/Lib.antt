@@ -7,6 +7,7 @@ pub mod HolderLemmas
 pub mod CollectedLemmas
 pub mod LeaveLemmas
 pub mod NumberLemmas
+pub mod InFileLemmas
 pub mod RoomLemmas
 pub mod FileLemmas
 pub mod GrantLemmas

@@ -1,5 +1,5 @@
 -- The next owner in the lists of a book: for `LockFile::next_listed`.
-use Rattle.lock_server.proofs.Common.{ℕ, suc, ◌≡◌, ◌<◌, ◌≤◌, ◌∙◌, ap, sym, refl, arith, subst, true, false, All, List, [], ◌∷◌, Option, Some, None, get_or, IfNone, lookup, Bound, cases_Bool, nat_tests, common_steps, All-cons, All-head, All-tail, RangeList, Owner, Process, Description, ByteModes, modes_in_list, is_same_owner, number_behind}
+use Rattle.lock_server.proofs.Common.{ℕ, suc, ◌≡◌, ◌<◌, ◌≤◌, ◌∙◌, ap, sym, refl, arith, subst, true, false, All, List, [], ◌∷◌, Option, Some, None, get_or, IfNone, lookup, Bound, cases_Bool, nat_tests, common_steps, All-cons, All-head, All-tail, OwnerRuns, Owner, Process, Description, ByteModes, modes_in_list, is_same_owner, number_behind}
 use Rattle.std.specs.declared.ops.Bound.TheVariants.{Included, Excluded}
 use Rattle.lock_book.specs.OwnerLists.{AreRising}
 use Rattle.lock_book.specs.Owners.{IsBefore, is_from}
@@ -27,7 +27,7 @@ none_anyhow None holds = holds
 none_anyhow (Some x) holds = tt
 
 -- where no list is the owner's, none is found
-none_found : (owner : Owner) (lists : List (Owner × RangeList)) → All (λ one. is_same_owner owner one.0 ≡ false) lists
+none_found : (owner : Owner) (lists : List (Owner × OwnerRuns)) → All (λ one. is_same_owner owner one.0 ≡ false) lists
     → lookup (is_same_owner owner) lists ≡ None
 none_found owner [] apart = refl
 none_found owner (one ∷ lists) apart =
@@ -42,7 +42,7 @@ lesser_itself : (number found : ℕ) → number < found → is_same_owner (Descr
 lesser_itself number found lesser = grind (arith, common_steps, cases_Bool, nat_tests)
 
 -- nor is its list among those that rise from there
-none_lesser : (number found : ℕ) (one : Owner × RangeList) (rest : List (Owner × RangeList)) → one.0 ≡ Description found → number < found
+none_lesser : (number found : ℕ) (one : Owner × OwnerRuns) (rest : List (Owner × OwnerRuns)) → one.0 ≡ Description found → number < found
     → AreRising (one ∷ rest) → lookup (is_same_owner (Description number)) (one ∷ rest) ≡ None
 none_lesser number found one rest at lesser rising =
     none_found (Description number) (one ∷ rest)
@@ -53,34 +53,34 @@ none_lesser number found one rest at lesser rising =
     lesser_apart number found (get_or rest k d).0 lesser (subst (λ (o : Owner). IsBefore o (get_or rest k d).0) at behind)))
 
 -- lists that stand for these modes from a bound on
-module _ (lists : List (Owner × RangeList)) (modes : ByteModes) (above : Option ℕ) (first : Bound Owner) (is : first ≡ bound_beyond above)
+module _ (lists : List (Owner × OwnerRuns)) (modes : ByteModes) (above : Option ℕ) (first : Bound Owner) (is : first ≡ bound_beyond above)
     (stand : (owner : Owner) (byte : ℕ) → is_from first owner ≡ true → modes_in_list (lookup (is_same_owner owner) lists) byte ≡ modes owner byte) where
   inside : (number : ℕ) → number_behind above ≤ number → is_from first (Description number) ≡ true
   inside number from = subst (λ (b : Bound Owner). is_from b (Description number) ≡ true) (sym is) (from_bound above number from)
 
   free : (number byte : ℕ) → number_behind above ≤ number → lookup (is_same_owner (Description number)) lists ≡ None → modes (Description number) byte ≡ None
-  free number byte from none = sym (stand (Description number) byte (inside number from)) ∙ ap (λ (l : Option RangeList). modes_in_list l byte) none
+  free number byte from none = sym (stand (Description number) byte (inside number from)) ∙ ap (λ (l : Option OwnerRuns). modes_in_list l byte) none
 
   -- without a list there is no lock
   pub none_listed : lists ≡ [] → (number byte : ℕ) → number_behind above ≤ number → modes (Description number) byte ≡ None
-  none_listed none number byte from = free number byte from (ap (λ (l : List (Owner × RangeList)). lookup (is_same_owner (Description number)) l) none)
+  none_listed none number byte from = free number byte from (ap (λ (l : List (Owner × OwnerRuns)). lookup (is_same_owner (Description number)) l) none)
 
   -- the first list is that of the least owner
-  pub least_listed : (one : Owner × RangeList) (rest : List (Owner × RangeList)) → lists ≡ one ∷ rest → AreRising lists → (found : ℕ)
+  pub least_listed : (one : Owner × OwnerRuns) (rest : List (Owner × OwnerRuns)) → lists ≡ one ∷ rest → AreRising lists → (found : ℕ)
       → one.0 ≡ Description found → (number byte : ℕ) → number_behind above ≤ number → number < found → modes (Description number) byte ≡ None
   least_listed one rest split rising found at number byte from lesser =
       free number byte from
-      (ap (λ (l : List (Owner × RangeList)). lookup (is_same_owner (Description number)) l) split
-      ∙ none_lesser number found one rest at lesser (subst (λ (l : List (Owner × RangeList)). AreRising l) split rising))
+      (ap (λ (l : List (Owner × OwnerRuns)). lookup (is_same_owner (Description number)) l) split
+      ∙ none_lesser number found one rest at lesser (subst (λ (l : List (Owner × OwnerRuns)). AreRising l) split rising))
 
 -- the owner of the first list is from the bound on
-module _ (lists : List (Owner × RangeList)) (above : Option ℕ) (first : Bound Owner) (is : first ≡ bound_beyond above)
-    (from : All (λ one. is_from first one.0 ≡ true) lists) (one : Owner × RangeList) (rest : List (Owner × RangeList)) (split : lists ≡ one ∷ rest) where
+module _ (lists : List (Owner × OwnerRuns)) (above : Option ℕ) (first : Bound Owner) (is : first ≡ bound_beyond above)
+    (from : All (λ one. is_from first one.0 ≡ true) lists) (one : Owner × OwnerRuns) (rest : List (Owner × OwnerRuns)) (split : lists ≡ one ∷ rest) where
   within : is_from (bound_beyond above) one.0 ≡ true
   within =
       subst (λ (b : Bound Owner). is_from b one.0 ≡ true) is
       (All-head (λ other. is_from first other.0 ≡ true) one rest
-      (subst (λ (l : List (Owner × RangeList)). All (λ other. is_from first other.0 ≡ true) l) split from))
+      (subst (λ (l : List (Owner × OwnerRuns)). All (λ other. is_from first other.0 ≡ true) l) split from))
 
   pub first_beyond : (found : ℕ) → one.0 ≡ Description found → number_behind above ≤ found
   first_beyond found at = beyond_bound above found (subst (λ (o : Owner). is_from (bound_beyond above) o ≡ true) at within)

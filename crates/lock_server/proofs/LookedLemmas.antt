@@ -1,18 +1,18 @@
 -- On which bytes a search looked: for `LookedAt`.
-use Rattle.lock_server.proofs.Common.{ℕ, ◌≡◌, ◌-◌, ◌<◌, ◌∙◌, inl, inr, sym, ap, subst, arith, Option, Some, None, ◌↔◌, UpdatesBy, get, Bor, option_copied, nat_cmp, cases_eq, Mode, Span, RangeList, modes_of, Covers, HeldConflicts, IsByteRange, Modes, modes_in_list, LookedAt, IsFirstPartLacking, looked_modes, IsAtLeast}
+use Rattle.lock_server.proofs.Common.{ℕ, ◌≡◌, ◌-◌, ◌<◌, ◌∙◌, inl, inr, sym, ap, subst, arith, Option, Some, None, ◌↔◌, UpdatesBy, get, Bor, option_copied, nat_cmp, cases_eq, Mode, Span, OwnerRuns, modes_of, Covers, HeldConflicts, IsByteRange, Modes, modes_in_list, LookedAt, IsFirstPartLacking, looked_modes, IsAtLeast}
 use Rattle.range_core.specs.Changes.{SetsMode, modes_with}
 use Rattle.range_core.specs.Ranges.{IsFirstHit}
 use Rattle.lock_server.specs.Lacking.{IsFirstLacking}
 use Rattle.lock_server.specs.LookedAt.{NotesLook}
 use Rattle.lock_server.proofs.TicketLemmas.{is_at-other}
 
-pub found_looked : (looked : LookedAt) (file : ℕ) (found : Option (Bor RangeList)) (list : Bor RangeList)
+pub found_looked : (looked : LookedAt) (file : ℕ) (found : Option (Bor OwnerRuns)) (list : Bor OwnerRuns)
     → option_copied found ≡ get nat_cmp looked.files file → found ≡ Some list → modes_of list.now ≡ looked_modes looked file
 found_looked looked file found list value is = ap modes_in_list (sym (ap option_copied is) ∙ value)
 
-pub not_looked : (looked : LookedAt) (file : ℕ) (found : Option (Bor RangeList)) → option_copied found ≡ get nat_cmp looked.files file → found ≡ None
+pub not_looked : (looked : LookedAt) (file : ℕ) (found : Option (Bor OwnerRuns)) → option_copied found ≡ get nat_cmp looked.files file → found ≡ None
     → (byte : ℕ) → looked_modes looked file byte ≡ None
-not_looked looked file found value is byte = ap (λ (l : Option RangeList). modes_in_list l byte) (sym value ∙ ap option_copied is)
+not_looked looked file found value is byte = ap (λ (l : Option OwnerRuns). modes_in_list l byte) (sym value ∙ ap option_copied is)
 
 none_least : (held : Option Mode) (wanted : Mode) → held ≡ None → ¬ IsAtLeast held wanted
 none_least None wanted none least = least
@@ -68,11 +68,11 @@ module _ (modes : Modes) (span : Span) (wanted against : Mode) (same : (held : O
 
 -- what is noted of a file
 module _ (old new : LookedAt) (file : ℕ) (span : Span) (mode : Mode) where
-  pub noted_by : (before : Modes) (after : RangeList) → ((byte : ℕ) → looked_modes old file byte ≡ before byte)
+  pub noted_by : (before : Modes) (after : OwnerRuns) → ((byte : ℕ) → looked_modes old file byte ≡ before byte)
       → UpdatesBy nat_cmp (nat_cmp file) old.files new.files (Some after) → SetsMode before (modes_of after) span (Some mode) → NotesLook old new file span mode
   noted_by before after was updates sets = record {
     there = λ byte.
-        ap (λ (l : Option RangeList). modes_in_list l byte) updates.1 ∙ sets byte
+        ap (λ (l : Option OwnerRuns). modes_in_list l byte) updates.1 ∙ sets byte
         ∙ ap (λ (held : Option Mode). modes_with (λ b. held) span (Some mode) byte) (sym (was byte));
-    elsewhere = λ other byte differs. ap (λ (l : Option RangeList). modes_in_list l byte) (updates.2 other (is_at-other file other differs));
+    elsewhere = λ other byte differs. ap (λ (l : Option OwnerRuns). modes_in_list l byte) (updates.2 other (is_at-other file other differs));
   }

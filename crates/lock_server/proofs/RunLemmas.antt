@@ -1,60 +1,129 @@
 -- The first run from a byte on: for `run_from`.
-use Rattle.lock_server.proofs.Common.{common_steps, ℕ, ◌≡◌, ◌<◌, ◌≤◌, ◌∙◌, ap, inl, inr, subst, arith, List, length, get_or, get_or_default, cases_lt, Mode, Span, AreRuns, Covers, IsRun, Modes}
-use Rattle.std.specs.List.{AllWithin}
-use Rattle.std.specs.List.Sorted.{IsNonDecreasingBy}
+use Rattle.lock_server.proofs.Common.{ℕ, zero, suc, ◌≡◌, ◌+◌, ◌<◌, ◌≤◌, ◌∙◌, inl, inr, cases_lt, ap, sym, subst, arith, Option, Some, None, List, [], ◌∷◌, All, Any, length, get_or, Mode, Span, AreRuns, Covers, IsByteRange, IsRun, Modes}
+use Rattle.std.specs.Prelude.{IfNone, IfSome}
+use Rattle.std.specs.Map.Iter.{TakesFirst}
+use Rattle.range_core.specs.declared.TheConstants.{OFFMAX}
+use Rattle.owner_runs.specs.Trees.{AreRunsTouching}
 use Rattle.lock_server.specs.Listing.{BeginBefore, IsFirstRunFrom}
 
--- the runs begin in order
-pub firsts_rise : (modes : Modes) (runs : List (Mode × Span)) → AreRuns modes runs → IsNonDecreasingBy (λ run. run.1.first) runs
-firsts_rise modes runs are i j d upto within = grind (arith, common_steps, cases_lt)
+-- no byte behind the last of a file has a mode, where all runs lie within one
+pub ends_in_file : (modes : Modes) (runs : List (Mode × Span)) → AreRuns modes runs → All (λ run. IsByteRange run.1) runs → (mode : Mode) (span : Span)
+    → IsRun modes span.first mode span → span.first ≤ OFFMAX
+ends_in_file modes runs are ranges mode span is =
+    let any = are.every span.first mode (is.constant span.first is.covered) in
+    let range : IsByteRange any.1.1 = subst (λ (r : Mode × Span). IsByteRange r.1) any.3 (ranges any.0 any.1 any.2) in
+    let ends = range.1 in
+    let covers = any.4.1.1 in
+    omega arith
 
--- runs that share a first byte begin together
-same_first : (modes : Modes) (mode : Mode) (one other : Span) → Covers other one.first → IsRun modes one.first mode one
-    → IsRun modes other.first mode other → other.first ≡ one.first
-same_first modes mode one other shared one_run other_run = grind (arith, common_steps)
+-- of the runs that touch the bytes from this one on
+module _ (modes : Modes) (byte : ℕ) (within : (mode : Mode) (span : Span) → IsRun modes span.first mode span → span.first ≤ OFFMAX) where
+  abbrev pub Touch : List (Mode × Span) → Type 0
+  Touch runs = AreRunsTouching modes (record { first = byte; last = OFFMAX }) runs
 
--- each run is one of them
-run_there : (modes : Modes) (runs : List (Mode × Span)) → AreRuns modes runs → (mode : Mode) (span : Span) → IsRun modes span.first mode span
-    → (k : ℕ) × (k < length runs) × ((d : Mode × Span) → (get_or runs k d).1.first ≡ span.first)
-run_there modes runs are mode span is_run =
-    let shown = are.every span.first mode (is_run.constant span.first is_run.covered) in
-    let k = shown.0 in
-    let run = shown.1 in
-    let is = shown.3 in
-    let at : (d : Mode × Span) → get_or runs k d ≡ run = λ d. get_or_default runs k d run shown.2 ∙ is in
-    let line : IsRun modes run.1.first run.0 run.1 = subst (λ (r : Mode × Span). IsRun modes r.1.first r.0 r.1) (at run) (are.each k run shown.2) in
-    let of_mode : IsRun modes run.1.first mode run.1 = subst (λ (m : Mode). IsRun modes run.1.first m run.1) shown.4.0 line in
-    (k, shown.2, λ d. ap (λ (r : Mode × Span). r.1.first) (at d) ∙ same_first modes mode span run.1 shown.4.1 is_run of_mode)
+  -- each that begins there is one
+  there : (runs : List (Mode × Span)) → Touch runs → (mode : Mode) (span : Span) → IsRun modes span.first mode span → byte ≤ span.first → Any (λ r. (r.0 ≡ mode) × (r.1 ≡ span)) runs
+  there runs touch mode span is from =
+      let upto = within mode span is in
+      let some = is.covered.1 in
+      touch.every mode span is (omega arith, omega arith)
 
--- runs of which the first so many begin before the byte, and the others don't
-module _ (modes : Modes) (runs : List (Mode × Span)) (are : AreRuns modes runs) (byte place : ℕ)
-    (low : AllWithin (λ run. run.1.first < byte) runs 0 place) (high : AllWithin (λ run. byte ≤ run.1.first) runs place (length runs)) where
-  pub first_there : (run : Mode × Span) → place < length runs → get_or runs place run ≡ run → IsFirstRunFrom modes byte run
-  first_there run within is = record {
-    is_run = subst (λ (r : Mode × Span). IsRun modes r.1.first r.0 r.1) is (are.each place run within);
-    from_there = subst (λ (r : Mode × Span). byte ≤ r.1.first) is (high place run (omega arith) within);
-    first = λ mode span is_run from.
-        let there = run_there modes runs are mode span is_run in
-        let at = there.2 run in
-        elim (cases_lt there.0 place) [
-          | inl below ↦ absurd (let before = low there.0 run (omega arith) below in omega arith)
-          | inr upto ↦
-              (let rise = firsts_rise modes runs are place there.0 run upto there.1 in
-              let begins : (get_or runs place run).1.first ≡ run.1.first = ap (λ (r : Mode × Span). r.1.first) is in
+  pub nothing_there : Touch [] → BeginBefore modes byte
+  nothing_there touch = record { before = λ mode span is. at mode span is }
+    where
+      at : (mode : Mode) (span : Span) → IsRun modes span.first mode span → span.first < byte
+      at mode span is = elim (cases_lt span.first byte) [
+        | inl h ↦ h
+        | inr from ↦ absurd (let any = there [] touch mode span is from in let inside : any.0 < 0 = any.2 in omega arith)
+      ]
+
+  module _ (run : Mode × Span) (rest : List (Mode × Span)) (touch : Touch (run ∷ rest)) where
+    -- the first is the first that begins there, if it does
+    pub first_there : byte ≤ run.1.first → IsFirstRunFrom modes byte run
+    first_there from = record {
+      is_run = touch.each 0 run (omega arith);
+      from_there = from;
+      first = λ mode span is begins. at mode span (there (run ∷ rest) touch mode span is begins);
+    }
+      where
+        at : (mode : Mode) (span : Span) → Any (λ r. (r.0 ≡ mode) × (r.1 ≡ span)) (run ∷ rest) → run.1.first ≤ span.first
+        at mode span (zero, r, inside, at_place, same) =
+            let e : r.1.first ≡ run.1.first = ap (λ (x : Mode × Span). x.1.first) (sym at_place) in
+            let f : r.1.first ≡ span.first = ap (λ (s : Span). s.first) same.1 in
+            omega arith
+        at mode span (suc k, r, inside, at_place, same) =
+            let e : (get_or rest k r).1.first ≡ r.1.first = ap (λ (x : Mode × Span). x.1.first) at_place in
+            let f : r.1.first ≡ span.first = ap (λ (s : Span). s.first) same.1 in
+            let rises : run.1.last < (get_or rest k r).1.first = touch.rising 0 (suc k) r (omega arith) inside in
+            let some = (touch.each 0 run (omega arith)).covered.1 in
+            omega arith
+
+    -- and where it begins before, it is the only one that does
+    pub only_before : rest ≡ [] → run.1.first < byte → BeginBefore modes byte
+    only_before none before = record { before = λ mode span is. at mode span is }
+      where
+        at : (mode : Mode) (span : Span) → IsRun modes span.first mode span → span.first < byte
+        at mode span is = elim (cases_lt span.first byte) [
+          | inl h ↦ h
+          | inr from ↦ absurd (
+              let any = there (run ∷ rest) touch mode span is from in
+              let count : length rest ≡ 0 = ap length none in
+              let inside = any.2 in
+              let k : any.0 ≡ 0 = omega arith in
+              let e : run ≡ any.1 = ap (λ (i : ℕ). get_or (run ∷ rest) i any.1) (sym k) ∙ any.3 in
+              let f : run.1.first ≡ span.first = ap (λ (x : Mode × Span). x.1.first) e ∙ ap (λ (s : Span). s.first) any.4.1 in
               omega arith)
-        ];
-  }
+        ]
 
-  pub all_before : length runs ≤ place → BeginBefore modes byte
-  all_before past = record {
-    before = λ mode span is_run.
-        let there = run_there modes runs are mode span is_run in
-        let d : Mode × Span = (mode, span) in
-        let at = there.2 d in
-        let within = there.1 in
-        let before = low there.0 d (omega arith) (omega arith) in
-        omega arith;
+  pub second_there : (run next : Mode × Span) (rest : List (Mode × Span)) → Touch (run ∷ next ∷ rest) → run.1.first < byte → IsFirstRunFrom modes byte next
+  second_there run next rest touch before = record {
+    is_run = touch.each 1 next (omega arith);
+    from_there = begins;
+    first = λ mode span is from. at mode span from (there (run ∷ next ∷ rest) touch mode span is from);
   }
+    where
+      begins : byte ≤ next.1.first
+      begins =
+          let rises : run.1.last < next.1.first = touch.rising 0 1 run (omega arith) (omega arith) in
+          let reaches : byte ≤ run.1.last + 1 = (touch.touch 0 run (omega arith)).0 in
+          omega arith
+
+      at : (mode : Mode) (span : Span) → byte ≤ span.first → Any (λ r. (r.0 ≡ mode) × (r.1 ≡ span)) (run ∷ next ∷ rest) → next.1.first ≤ span.first
+      at mode span from (zero, r, inside, at_place, same) =
+          let e : r.1.first ≡ run.1.first = ap (λ (x : Mode × Span). x.1.first) (sym at_place) in
+          let f : r.1.first ≡ span.first = ap (λ (s : Span). s.first) same.1 in
+          omega arith
+      at mode span from (suc zero, r, inside, at_place, same) =
+          let e : r.1.first ≡ next.1.first = ap (λ (x : Mode × Span). x.1.first) (sym at_place) in
+          let f : r.1.first ≡ span.first = ap (λ (s : Span). s.first) same.1 in
+          omega arith
+      at mode span from (suc (suc k), r, inside, at_place, same) =
+          let e : (get_or rest k r).1.first ≡ r.1.first = ap (λ (x : Mode × Span). x.1.first) at_place in
+          let f : r.1.first ≡ span.first = ap (λ (s : Span). s.first) same.1 in
+          let rises : next.1.last < (get_or rest k r).1.first = touch.rising 1 (suc (suc k)) r (omega arith) inside in
+          let some = (touch.each 1 next (omega arith)).covered.1 in
+          omega arith
+
+  -- so the call of `next` behind the first, which begins before, tells
+  module _ (run : Mode × Span) (rest behind : List (Mode × Span)) (touch : Touch (run ∷ rest)) (before : run.1.first < byte) where
+    pub next_there : (next : Option (Mode × Span)) → TakesFirst (λ r. r) rest next behind → IfSome next (IsFirstRunFrom modes byte)
+    next_there None step = tt
+    next_there (Some next) step = second_there run next behind (subst (λ (l : List (Mode × Span)). Touch (run ∷ l)) step touch) before
+
+    pub none_behind : (next : Option (Mode × Span)) → TakesFirst (λ r. r) rest next behind → IfNone next (BeginBefore modes byte)
+    none_behind None step = only_before run rest touch step.0 before
+    none_behind (Some next) step = tt
+
+-- where no byte has a mode no run begins anywhere
+pub nothing_begins : (modes : Modes) → ((byte : ℕ) → None ≡ modes byte) → (byte : ℕ) → BeginBefore modes byte
+nothing_begins modes free byte = record {
+  before = λ mode span is. absurd (let h : None ≡ Some mode = free span.first ∙ is.constant span.first is.covered in cc);
+}
+
+-- what holds anyhow holds where nothing is told
+pub if_none : {X : Type 0} (told : Option X) (Says : Type 0) → Says → IfNone told Says
+if_none None Says says = says
+if_none (Some x) Says says = tt
 
 -- modes that are the same on each byte are the same
 pub first_run_as : (one other : Modes) → ((byte : ℕ) → one byte ≡ other byte) → (byte : ℕ) (run : Mode × Span) → IsFirstRunFrom one byte run

@@ -1,6 +1,6 @@
 -- What the parts of a server's export tell: for `LockServer::import`.
 use Rattle.lock_server.proofs.Common.{ℕ, ◌≡◌, ◌∙◌, ◌≤◌, sym, ap, subst, refl, arith, inl, inr, Bool, true, false, All, Any, Option, Some, None, List, [], ◌∷◌, length, map, if◌then◌else◌, IsTrue, common_steps, All-head, All-tail}
-use Rattle.lock_server.proofs.Common.{Mode, Span, RangeList, is_covered, modes_of, Covers, IsByteRange, Owner, Description, Book, byte_modes_of, modes_in_list, FlockLock, Lock, Pending, LockFile, FilePart, Parts, Table, file_state, state_at, FileState, SameFile, untouched, AreNotesOf, AreOf, AreFiles, AreJust, FileEntry, IsInventory, Note, SaysFile, note_place, IsByteLock, MayLock, MayStand, MayWait, inventory_of, note_of, IsSafe, HasDetected, table_state}
+use Rattle.lock_server.proofs.Common.{Mode, Span, OwnerRuns, is_covered, modes_of, Covers, IsByteRange, Owner, Description, Book, byte_modes_of, modes_in_list, FlockLock, Lock, Pending, LockFile, FilePart, Parts, Table, file_state, state_at, FileState, SameFile, untouched, AreNotesOf, AreOf, AreFiles, AreJust, FileEntry, IsInventory, Note, SaysFile, note_place, IsByteLock, MayLock, MayStand, MayWait, inventory_of, note_of, IsSafe, HasDetected, table_state}
 use Rattle.std.specs.Prelude.{◌≢◌, Contains}
 use Rattle.std.proofs.lemmas.Bool.{leb-true}
 use Rattle.range_core.specs.declared.TheConstants.{OFFMAX}
@@ -17,34 +17,11 @@ use Rattle.lock_server.proofs.WaiterMoves.{detected_somewhere}
 
 -- no lock lies beyond the largest offset
 
-in_runs : (runs : List (Mode × Span)) → All (λ run. IsByteRange run.1) runs → (byte : ℕ) (mode : Mode) → mode_in runs byte ≡ Some mode → byte ≤ OFFMAX
-in_runs [] ranges byte mode is = let h : None ≡ Some mode = is in absurd (cc)
-in_runs (run ∷ runs) ranges byte mode is =
-    either (λ same. in_runs runs (All-tail (λ r. IsByteRange r.1) run runs ranges) byte mode same) (is_covered run.1 byte) refl is
-  where
-    either : (mode_in runs byte ≡ Some mode → byte ≤ OFFMAX) → (here : Bool) → is_covered run.1 byte ≡ here
-        → (if here then Some run.0 else mode_in runs byte) ≡ Some mode → byte ≤ OFFMAX
-    either behind true here same =
-        let range = All-head (λ r. IsByteRange r.1) run runs ranges in
-        let last = range.1 in
-        let up : byte ≤ run.1.last = grind (arith, common_steps, leb-true) in
-        omega arith
-    either behind false here same = behind same
-
-in_list : (list : Option RangeList) (byte : ℕ) (mode : Mode) → modes_in_list list byte ≡ Some mode → byte ≤ OFFMAX
-unfolding modes_of
-in_list None byte mode is = let h : None ≡ Some mode = is in absurd (cc)
-in_list (Some list) byte mode is = in_runs list.runs.items list.ranges byte mode is
-
-in_book : (book : Book) (owner : Owner) (byte : ℕ) (mode : Mode) → byte_modes_of book owner byte ≡ Some mode → byte ≤ OFFMAX
-unfolding byte_modes_of
-in_book book owner byte mode is = in_list (list_of book owner) byte mode is
-
 may_lock : (entry : Option LockFile) (lock : Lock) → IsByteLock (state_at entry) lock → MayLock lock
 unfolding file_state
 may_lock None lock run = let h : None ≡ Some lock.mode = run.constant lock.span.first run.covered in absurd (cc)
 may_lock (Some file) lock run =
-    (run.covered.1, in_book file.book (Description lock.owner) lock.span.last lock.mode (run.constant lock.span.last (run.covered.1, omega arith)))
+    (run.covered.1, file.in_file.within (Description lock.owner) lock.span.last lock.mode (run.constant lock.span.last (run.covered.1, omega arith)))
 
 may_wait : (entry : Option LockFile) → All MayWait (state_at entry).waits
 unfolding file_state

@@ -126,6 +126,12 @@ pub items_all : {X : Type 0} (spell : X → List ℕ) (front : List ℕ) (xs : L
 items_all spell front xs i old new at next beyond puts =
     subst (λ l. Puts (front ++ flat_map spell l) old at new next) (take_all i xs beyond) puts
 
+-- one more item of a loop by value
+pub item_more : {X : Type 0} (spell : X → List ℕ) (xs : List X) (x : X) (old mid new : List ℕ) (at then next : ℕ)
+    → Puts (flat_map spell xs) old at mid then → Puts (spell x) mid then new next → Puts (flat_map spell (xs ++ x ∷ [])) old at new next
+item_more spell xs x old mid new at then next first second =
+    subst (λ (l : List ℕ). Puts l old at new next) (flat_map_more spell [] xs x) (puts_append (flat_map spell xs) (spell x) old mid new at then next first second)
+
 -- one item by itself
 pub item_alone : {X : Type 0} (spell : X → List ℕ) (x : X) (old new : List ℕ) (at next : ℕ) → Puts (spell x) old at new next
     → Puts (flat_map spell (x ∷ [])) old at new next

@@ -1,8 +1,10 @@
 -- Byte locks of owners that are numbers, as the definitions of `lock_book` see them.
-use Rattle.std.specs.Prelude.{◌≡◌, ℕ, None}
+use Rattle.std.specs.Prelude.{◌≡◌, ◌≤◌, ℕ, None, Some}
 use Rattle.range_core.specs.declared.Mode.{Mode}
 use Rattle.range_core.specs.declared.Span.{Span}
+use Rattle.range_core.specs.declared.TheConstants.{OFFMAX}
 use Rattle.lock_book.specs.declared.Blocker.{Blocker}
+use Rattle.lock_book.specs.declared.Owner.{Owner}
 use Rattle.lock_book.specs.declared.Owner.TheVariants.{Process, Description}
 use Rattle.lock_book.specs.Conflicts.{ByteConflict, ByteModes, IsFirstBlocker}
 use Rattle.lock_server.specs.declared.Lock.{Lock}
@@ -24,3 +26,7 @@ IsFirstLock F owner span mode lock = IsFirstBlocker (by_owner F.bytes) (Descript
 -- the byte locks are of numbers alone: no process has one (this project's choice)
 pub record AreOfNumbers (modes : ByteModes) : Type 0 where
   pub processes : (process byte : ℕ) → modes (Process process) byte ≡ None
+
+-- each byte that is locked lies in a file (this project's choice)
+pub record AreInFile (modes : ByteModes) : Type 0 where
+  pub within : (owner : Owner) (byte : ℕ) (mode : Mode) → modes owner byte ≡ Some mode → byte ≤ OFFMAX

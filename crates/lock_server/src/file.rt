@@ -3,7 +3,7 @@ ghost use Rattle.std.specs.Prelude.{All};
 ghost use Rattle.range_core.specs.Ranges.{IsByteRange};
 ghost use Rattle.lock_book.specs.Books.{byte_modes_of};
 ghost use Rattle.lock_server.specs.FlockOwners.{AreKnown};
-ghost use Rattle.lock_server.specs.Locks.{AreOfNumbers};
+ghost use Rattle.lock_server.specs.Locks.{AreInFile, AreOfNumbers};
 ghost use Rattle.lock_server.specs.Room.{HasRoom};
 
 mod blockers;
@@ -37,6 +37,7 @@ pub struct LockFile {
     ghost ranges: { All (λ wait. IsByteRange wait.span) waits.items },
     ghost room: { HasRoom book waits.items },
     ghost numbers: { AreOfNumbers (byte_modes_of book) },
+    ghost in_file: { AreInFile (byte_modes_of book) },
     ghost known: { AreKnown flock_owners book },
 }
 

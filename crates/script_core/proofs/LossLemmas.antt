@@ -2,8 +2,8 @@
 use Rattle.script_core.proofs.Common.{cases_lt, eqb-true, ℕ, zero, suc, ◌≡◌, ◌+◌, ◌<◌, ◌==◌, ◌&&◌, ◌||◌, not, Bool, true, false, IsFalse, inl, inr, Option, Some, None, Result, Ok, Err, List, [], ◌∷◌, ◌++◌, length, map, MatchBool, refl, sym, ap, subst, ◌∙◌, arith, add-one, append-nil}
 use Rattle.script_core.proofs.Common.{Mode, Span, Modes, AreRuns, Look, Held, Owner, Process, Description, mode_in, flock_mode_in, State, Manager, StandsFor, Closing, is_such, any_open, is_alive, keeps, stays_open, byte_line, flock_line}
 use Rattle.std.proofs.Common.{IfOk}
-use Rattle.range_core.specs.declared.list.RangeList.{RangeList}
-use Rattle.range_core.specs.Changes.{modes_of}
+use Rattle.owner_runs.specs.declared.owner_runs.OwnerRuns.{OwnerRuns}
+use Rattle.owner_runs.specs.Lists.{modes_of}
 use Rattle.lock_book.specs.OwnerLists.{modes_in_list}
 use Rattle.script_core.specs.Losses.{AreByteLocksOf, AreLocksOf, AreReleasedBy}
 
@@ -58,7 +58,7 @@ somebody limit S closed d index (suc n) within is = elim (cases_lt index n) [
 ]
 
 -- the runs of an owner's list are its byte locks
-pub bytes_listed : (S : State) (file : ℕ) (owner : Owner) (list : RangeList) (runs : List (Mode × Span)) (locks : List Held)
+pub bytes_listed : (S : State) (file : ℕ) (owner : Owner) (list : OwnerRuns) (runs : List (Mode × Span)) (locks : List Held)
     → ((byte : ℕ) → modes_of list byte ≡ mode_in S.changes file owner byte) → AreRuns (modes_of list) runs → locks ≡ map (byte_line file owner) runs
     → AreByteLocksOf S file owner locks
 bytes_listed S file owner list runs locks same are is = (runs, subst (λ (m : Modes). AreRuns m runs) (λ i byte. same byte i) are, is)
@@ -104,37 +104,25 @@ pub own_and_others : (S : State) (p : ℕ) (look : Look) (stays : Bool) (own oth
 own_and_others S p look stays own others locks are are_others last is =
     (own, others, are, subst (λ (b : Bool). MatchBool b (others ≡ []) (AreLocksOf S look.file look.desc others)) (sym last) are_others, is)
 
--- no runs are left where their list is empty
-pub empty_runs : (runs : List (Mode × Span)) (empty : Bool) → empty ≡ (length runs == 0) → IsFalse (not empty) → runs ≡ []
-empty_runs [] empty is none = refl
-empty_runs (run ∷ runs) true is none = absurd (let wrong : length (run ∷ runs) ≡ 0 = eqb-true (length (run ∷ runs)) 0 (sym is) in omega (arith, wrong))
-empty_runs (run ∷ runs) false is none = absurd (cc)
-
--- a description whose list has no run, or that has no list, and no flock lock
-pub none_listed : (S : State) (file d : ℕ) (list : RangeList) (runs : List (Mode × Span))
-    → ((byte : ℕ) → modes_of list byte ≡ mode_in S.changes file (Description d) byte) → AreRuns (modes_of list) runs → runs ≡ []
-    → None ≡ flock_mode_in S.flock_changes file d → AreLocksOf S file d []
-none_listed S file d list runs same are none no_flock =
-    no_locks S file d (bytes_listed S file (Description d) list [] [] same (subst (AreRuns (modes_of list)) none are) refl) (sym no_flock)
-
+-- a description that has no byte lock and no flock lock
 pub unlisted : (S : State) (file d : ℕ) → ((byte : ℕ) → None ≡ mode_in S.changes file (Description d) byte) → None ≡ flock_mode_in S.flock_changes file d
     → AreLocksOf S file d []
 unlisted S file d same no_flock = no_locks S file d (bytes_unlisted S file (Description d) same) (sym no_flock)
 
 -- what is listed of an owner's runs, and of an owner without a list
-pub listed_result : {A E : Type 0} (items : A → List Held) (result : Result A E) (manager : Manager) (file : ℕ) (owner : Owner) (found : Option RangeList)
-    (list : RangeList) (runs : List (Mode × Span))
+pub listed_result : {A E : Type 0} (items : A → List Held) (result : Result A E) (manager : Manager) (file : ℕ) (owner : Owner) (found : Option OwnerRuns)
+    (list : OwnerRuns) (runs : List (Mode × Span))
     → ((S : State) → StandsFor manager S → (byte : ℕ) → modes_in_list found byte ≡ mode_in S.changes file owner byte) → found ≡ Some list
     → AreRuns (modes_of list) runs → IfOk result (λ lines. items lines ≡ map (byte_line file owner) runs)
     → IfOk result (λ locks. (S : State) → StandsFor manager S → AreByteLocksOf S file owner (items locks))
 listed_result items (Ok locks) manager file owner found list runs same some are is = λ S h.
     bytes_listed S file owner list runs (items locks)
-    (subst (λ (f : Option RangeList). (byte : ℕ) → modes_in_list f byte ≡ mode_in S.changes file owner byte) some (same S h)) are is
+    (subst (λ (f : Option OwnerRuns). (byte : ℕ) → modes_in_list f byte ≡ mode_in S.changes file owner byte) some (same S h)) are is
 listed_result items (Err error) manager file owner found list runs same some are is = tt
 
-pub unlisted_result : (manager : Manager) (file : ℕ) (owner : Owner) (found : Option RangeList) (locks : List Held)
+pub unlisted_result : (manager : Manager) (file : ℕ) (owner : Owner) (found : Option OwnerRuns) (locks : List Held)
     → ((S : State) → StandsFor manager S → (byte : ℕ) → modes_in_list found byte ≡ mode_in S.changes file owner byte) → found ≡ None → locks ≡ []
     → (S : State) → StandsFor manager S → AreByteLocksOf S file owner locks
 unlisted_result manager file owner found locks same none empty S h =
     subst (AreByteLocksOf S file owner) (sym empty)
-    (bytes_unlisted S file owner (subst (λ (f : Option RangeList). (byte : ℕ) → modes_in_list f byte ≡ mode_in S.changes file owner byte) none (same S h)))
+    (bytes_unlisted S file owner (subst (λ (f : Option OwnerRuns). (byte : ℕ) → modes_in_list f byte ≡ mode_in S.changes file owner byte) none (same S h)))

@@ -9,6 +9,7 @@ ghost use Rattle.script_core.specs.Losses as spec;
 use fd_table::{Limits, Look};
 use lock_book::{Held, Owner};
 use lock_manager::{FlockOp, Manager, ProcState, Request};
+use owner_runs::Runs;
 use range_core::{Memory, Mode, Span};
 use std::alloc::Global;
 
@@ -121,13 +122,8 @@ fn byte_locks(alloc: Global, manager: &Manager, file: u8, owner: Owner) -> Resul
 }
 
 /// A line for each run of the owner's byte locks.
-fn byte_lines(
-    alloc: Global,
-    file: u8,
-    owner: Owner,
-    runs: &[(Mode, Span)],
-) -> Result<Vec<Held>, Memory>
-    ensures { IfOk result (λ lines. lines.items ≡ map (spec.byte_line file owner) runs.now) }
+fn byte_lines(alloc: Global, file: u8, owner: Owner, runs: Runs<'_>) -> Result<Vec<Held>, Memory>
+    ensures { IfOk result (λ lines. lines.items ≡ map (spec.byte_line file owner) runs.entry) }
 {
     let mut lines = Vec::new(alloc);
     for (mode, span) in runs {
@@ -135,8 +131,8 @@ fn byte_lines(
             file,
             whole: false,
             owner,
-            mode: *mode,
-            span: *span,
+            mode,
+            span,
         })?;
     }
     Ok(lines)
@@ -179,7 +175,7 @@ fn has_lock(manager: &Manager, look: Look) -> bool
         return true;
     }
     match manager.byte_locks(look.file, Owner::Description(look.desc)) {
-        Some(list) => !list.runs().is_empty(),
+        Some(list) => !list.is_empty(),
         None => false,
     }
 }

@@ -3,7 +3,7 @@
 use Rattle.wait_core.proofs.Common.{ℕ, ◌≡◌, ◌≢◌, ◌+◌, ◌<◌, ◌↔◌, ◌∙◌, inl, inr, sym, ap, refl, subst, arith, true, false, Option, Some, None, List, [], ◌∷◌, ◌++◌, Any, length, get_or, take, IsTrue, ◌==◌, ◌||◌, eqb-true, eq-eqb, or_left, or_right, nat_tests, Mode, Span, modes_of, Owner, Process, ByteModes, ProcessBlocks, Wait, ProcessSet, WaitsConflict, IsTraditional, IsConflictOf, is_member}
 use Rattle.std.specs.Prelude.{IfSome, IfNone, is_some}
 use Rattle.std.proofs.lemmas.List.{take_more}
-use Rattle.range_core.specs.declared.list.RangeList.{RangeList}
+use Rattle.owner_runs.specs.declared.owner_runs.OwnerRuns.{OwnerRuns}
 use Rattle.range_core.specs.Ranges.{Covers, HeldConflicts, IsFirstHit}
 use Rattle.wait_core.proofs.AnyLemmas.{Any-append, Any-append_left, Any-append_right, Any-here, Any-alone}
 use Rattle.wait_core.proofs.ProcessLemmas.{or_cases}
@@ -49,7 +49,7 @@ module _ (wait : Wait) (waits : List Wait) (i : ℕ) (last : Wait) (within : i <
   )
 
 -- a process whose modes stand in a list blocks where the list has a hit
-pub list_blocks : (modes : ByteModes) (process : ℕ) (owner : Owner) (span : Span) (wanted : Mode) (list : RangeList) (hit : Option ℕ)
+pub list_blocks : (modes : ByteModes) (process : ℕ) (owner : Owner) (span : Span) (wanted : Mode) (list : OwnerRuns) (hit : Option ℕ)
     → Process process ≢ owner → ((byte : ℕ) → modes_of list byte ≡ modes (Process process) byte)
     → IfSome hit (IsFirstHit (modes_of list) span wanted) → IfNone hit ((byte : ℕ) → Covers span byte → ¬ HeldConflicts (modes_of list byte) wanted)
     → IsTrue (is_some hit) ↔ ProcessBlocks modes process owner span wanted

@@ -16,7 +16,7 @@ pub use Rattle.std.specs.Prelude.{IsFalse, IsTrue, if◌then◌else◌, slice_ge
 pub use Rattle.lock_book.specs.Conflicts.{ByteModes, ProcessBlocks}
 pub use Rattle.lock_book.specs.declared.Owner.{Owner}
 pub use Rattle.lock_book.specs.declared.Owner.TheVariants.{Process}
-unfoldable pub use Rattle.range_core.specs.Changes.{modes_of}
+unfoldable pub use Rattle.owner_runs.specs.Lists.{modes_of}
 pub use Rattle.range_core.specs.declared.Mode.{Mode}
 pub use Rattle.range_core.specs.declared.Span.{Span}
 pub use Rattle.wait_core.specs.Blocking.{AllBlocked, IsBlocked, Meet, WaitsConflict}

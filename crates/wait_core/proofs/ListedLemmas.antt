@@ -10,7 +10,7 @@ use Rattle.std.proofs.lemmas.List.Elements.{All-append, All-get_or, All-map}
 use Rattle.std.proofs.lemmas.Map.Entries.{place_from_lookup}
 use Rattle.std.proofs.lemmas.Map.Iter.{rest_so_far, rest_more}
 use Rattle.std.proofs.lemmas.Option.{slice_get_within}
-use Rattle.range_core.specs.declared.list.RangeList.{RangeList}
+use Rattle.owner_runs.specs.declared.owner_runs.OwnerRuns.{OwnerRuns}
 use Rattle.range_core.specs.Ranges.{AreRuns, HeldConflicts, Modes}
 use Rattle.lock_book.specs.declared.Owner.TheVariants.{Description}
 use Rattle.lock_book.specs.declared.book.Book.{Book}
@@ -47,14 +47,14 @@ before_rest R (y ∷ before) x rest rising =
 
 -- an owner's list, as a loop over the lists gives it
 abbrev pub Item : Type 0
-Item = Bor Owner × Bor RangeList
+Item = Bor Owner × Bor OwnerRuns
 
 -- each owner has the modes of its list among these, and none without one
-abbrev pub AreLists : List (Owner × RangeList) → ByteModes → Type 0
+abbrev pub AreLists : List (Owner × OwnerRuns) → ByteModes → Type 0
 AreLists lists modes = (owner : Owner) (byte : ℕ) → modes_in_list (lookup (is_same_owner owner) lists) byte ≡ modes owner byte
 
 -- the book of a file has the lists of its owners
-pub lists_at : (books : List Book) (i file : ℕ) (book : Book) (lists : List (Owner × RangeList)) → i < length books → book ≡ slice_index_or books i book
+pub lists_at : (books : List Book) (i file : ℕ) (book : Book) (lists : List (Owner × OwnerRuns)) → i < length books → book ≡ slice_index_or books i book
     → i ≡ file → AreLists lists (byte_modes_of book) → AreLists lists ((locks_of books).bytes file)
 lists_at books i file book lists within is at are owner byte =
     let there : Some book ≡ slice_get books file =
@@ -62,25 +62,16 @@ lists_at books i file book lists within is at are owner byte =
     are owner byte ∙ ap (λ (b : Option Book). byte_modes_at b owner byte) there
 
 -- the next list of a loop has the modes of its process
-pub modes_in_loop : (lists : List (Owner × RangeList)) (modes : ByteModes) → AreLists lists modes → (items : List Item)
-    (s t u : List (Owner × RangeList)) (r : Option Item) (x : Item) → s ≡ lists → Yields (TakesFirst deref_pair) s items t → r ≡ Some x
+pub modes_in_loop : (lists : List (Owner × OwnerRuns)) (modes : ByteModes) → AreLists lists modes → (items : List Item)
+    (s t u : List (Owner × OwnerRuns)) (r : Option Item) (x : Item) → s ≡ lists → Yields (TakesFirst deref_pair) s items t → r ≡ Some x
     → TakesFirst deref_pair t r u → AreFound lists → (k : ℕ) → x.0.now ≡ Process k → (byte : ℕ)
     → modes_of x.1.now byte ≡ modes (Process k) byte
 modes_in_loop lists modes are items s t u r x start yields is step each k at byte =
     let here = All-turn deref_pair (λ e. lookup (is_same_owner e.0) lists ≡ Some e.1) lists items s t u r x each start yields is step in
-    sym (ap (λ (l : Option RangeList). modes_in_list l byte) here) ∙ are x.0.now byte ∙ ap (λ (o : Owner). modes o byte) at
-
-none_of : (held : Option Mode) → ((mode : Mode) → held ≡ Some mode → ⊥) → held ≡ None
-none_of None some = refl
-none_of (Some mode) some = absurd (some mode refl)
-
--- one without runs has none
-pub free_without_runs : (modes : Modes) (runs : List (Mode × Span)) → AreRuns modes runs → length runs ≡ 0 → (byte : ℕ) → modes byte ≡ None
-free_without_runs modes runs are none byte =
-    none_of (modes byte) (λ mode has. let run = are.every byte mode has in let within : run.0 < length runs = run.2 in omega (arith, none))
+    sym (ap (λ (l : Option OwnerRuns). modes_in_list l byte) here) ∙ are x.0.now byte ∙ ap (λ (o : Owner). modes o byte) at
 
 -- an owner whose mode conflicts has a list
-list_in : (list : Option RangeList) (byte : ℕ) (wanted : Mode) → HeldConflicts (modes_in_list list byte) wanted → (some : RangeList) × (list ≡ Some some)
+list_in : (list : Option OwnerRuns) (byte : ℕ) (wanted : Mode) → HeldConflicts (modes_in_list list byte) wanted → (some : OwnerRuns) × (list ≡ Some some)
 list_in None byte wanted conflicts = absurd conflicts
 list_in (Some list) byte wanted conflicts = (list, refl)
 
@@ -127,7 +118,7 @@ module _ (modes : ByteModes) (owner : Owner) (span : Span) (wanted : Mode) where
         subst (λ (n : ℕ). IsTrue (is_member new n)) same (inserted_same old new k members))
 
   -- where each list's owner was told, just the processes that block are in the set
-  told_of_all : (lists : List (Owner × RangeList)) → AreLists lists modes → (set : ProcessSet) → OnlyBlocking set
+  told_of_all : (lists : List (Owner × OwnerRuns)) → AreLists lists modes → (set : ProcessSet) → OnlyBlocking set
       → All (λ e. IsToldIfBlocking set e.0) lists → (q : ℕ) → 1 ≤ q → q ≤ PROCESSES → IsTrue (is_member set q) ↔ ProcessBlocks modes q owner span wanted
   told_of_all lists are set only all q one few = (
     only q one few,
@@ -139,29 +130,29 @@ module _ (modes : ByteModes) (owner : Owner) (span : Span) (wanted : Mode) where
   )
 
   -- as it is at the end of the lists
-  pub told_at_end : (lists : List (Owner × RangeList)) → AreLists lists modes → (set : ProcessSet) (items : List Item) → map deref_pair items ≡ lists
+  pub told_at_end : (lists : List (Owner × OwnerRuns)) → AreLists lists modes → (set : ProcessSet) (items : List Item) → map deref_pair items ≡ lists
       → OnlyBlocking set → All (λ y. IsToldIfBlocking set y.0.now) items → (q : ℕ) → 1 ≤ q → q ≤ PROCESSES
       → IsTrue (is_member set q) ↔ ProcessBlocks modes q owner span wanted
   told_at_end lists are set items whole only all =
       told_of_all lists are set only
-      (subst (λ (es : List (Owner × RangeList)). All (λ e. IsToldIfBlocking set e.0) es) whole (All-map (λ e. IsToldIfBlocking set e.0) deref_pair items all))
+      (subst (λ (es : List (Owner × OwnerRuns)). All (λ e. IsToldIfBlocking set e.0) es) whole (All-map (λ e. IsToldIfBlocking set e.0) deref_pair items all))
 
   -- and at the first description, since all processes come before it
-  pub told_at_description : (lists : List (Owner × RangeList)) → AreLists lists modes → (set : ProcessSet) (items : List Item)
-      (s t u : List (Owner × RangeList)) (r : Option Item) (x : Item) → s ≡ lists → Yields (TakesFirst deref_pair) s items t → r ≡ Some x
+  pub told_at_description : (lists : List (Owner × OwnerRuns)) → AreLists lists modes → (set : ProcessSet) (items : List Item)
+      (s t u : List (Owner × OwnerRuns)) (r : Option Item) (x : Item) → s ≡ lists → Yields (TakesFirst deref_pair) s items t → r ≡ Some x
       → TakesFirst deref_pair t r u → AreRising lists → (description : ℕ) → x.0.now ≡ Description description → OnlyBlocking set
       → All (λ y. IsToldIfBlocking set y.0.now) items → (q : ℕ) → 1 ≤ q → q ≤ PROCESSES
       → IsTrue (is_member set q) ↔ ProcessBlocks modes q owner span wanted
   told_at_description lists are set items s t u r x start yields is step rising description at only all =
-      let P : Owner × RangeList → Type 0 = λ e. IsToldIfBlocking set e.0 in
+      let P : Owner × OwnerRuns → Type 0 = λ e. IsToldIfBlocking set e.0 in
       let split : lists ≡ map deref_pair items ++ deref_pair x ∷ u =
       sym start ∙ rest_so_far deref_pair items s t yields
-      ∙ ap (λ (l : List (Owner × RangeList)). map deref_pair items ++ l) (rest_more deref_pair t u r x is step) in
-      let rise = subst (λ (l : List (Owner × RangeList)). AreRising l) split rising in
+      ∙ ap (λ (l : List (Owner × OwnerRuns)). map deref_pair items ++ l) (rest_more deref_pair t u r x is step) in
+      let rise = subst (λ (l : List (Owner × OwnerRuns)). AreRising l) split rising in
       let later : All P u =
       All-weaker (λ e. IsBefore x.0.now e.0) P (λ e before q one few is_q conflict. absurd (description_last x.0.now e.0 description q at before is_q)) u
       (before_rest (λ one other. IsBefore one.0 other.0) (map deref_pair items) (deref_pair x) u rise) in
       let here : P (deref_pair x) = λ q one few is_q conflict. absurd (let no : Description description ≡ Process q = sym at ∙ is_q in cc) in
       told_of_all lists are set only
-      (subst (λ (l : List (Owner × RangeList)). All P l) (sym split)
+      (subst (λ (l : List (Owner × OwnerRuns)). All P l) (sym split)
       (All-append P (map deref_pair items) (deref_pair x ∷ u) (All-map P deref_pair items all) (All-cons P (deref_pair x) u here later)))

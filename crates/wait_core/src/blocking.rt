@@ -17,7 +17,8 @@ use crate::processes::{PROCESSES, ProcessSet};
 use crate::queues::FileWaits;
 use crate::{Family, Wait};
 use lock_book::{Book, Owner};
-use range_core::{RangeList, Span};
+use owner_runs::OwnerRuns;
+use range_core::Span;
 
 impl Wait {
     /// Whether the wait is for a traditional lock, that of its process.
@@ -78,7 +79,7 @@ impl Wait {
                 return blocking;
             };
             // The list of an owner that waits mostly holds room alone.
-            if list.runs().is_empty() {
+            if list.is_empty() {
                 continue;
             }
             if (1..=PROCESSES).contains(&process) && self.is_blocked_by_list(process, Some(list)) {
@@ -89,7 +90,7 @@ impl Wait {
     }
 
     /// Whether a traditional lock of the process blocks the wait; the list has the modes of the process on the wait's file.
-    fn is_blocked_by_list(&self, process: u8, list: Option<&RangeList>) -> bool
+    fn is_blocked_by_list(&self, process: u8, list: Option<&OwnerRuns>) -> bool
         requires { IsByteRange self.now.span }
         ensures { (modes : ByteModes) → ((byte : ℕ) → modes_in_list (option_copied list.entry) byte ≡ modes (Process process) byte)
             → IsTrue result ↔ ProcessBlocks modes process self.now.owner self.now.span self.now.mode }
@@ -104,7 +105,7 @@ impl Wait {
     }
 
     /// Whether the wait is traditional, and a lock of the process blocks it; the list has the modes of the process on its file.
-    pub(crate) fn waits_for(&self, process: u8, list: Option<&RangeList>) -> bool
+    pub(crate) fn waits_for(&self, process: u8, list: Option<&OwnerRuns>) -> bool
         requires { IsByteRange self.now.span }
         ensures { (locks : Locks) → ((byte : ℕ) → modes_in_list (option_copied list.entry) byte ≡ locks.bytes self.now.file (Process process) byte)
             → IsTrue result ↔ IsBlockedWait locks self.now.p process self.now }

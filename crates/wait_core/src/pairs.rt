@@ -13,7 +13,8 @@ use crate::Wait;
 use crate::processes::{PROCESSES, ProcessSet, ROWS};
 use crate::queues::FileWaits;
 use lock_book::{Book, Owner};
-use range_core::{Memory, RangeList, Span};
+use owner_runs::OwnerRuns;
+use range_core::{Memory, Span};
 use std::alloc::Global;
 
 /// Which process waits for which: by a lock, or behind another wait, as its owner says.
@@ -117,7 +118,7 @@ impl Pairs {
 
     /// Tells anew whether the process of this wait waits for the other one by a lock, of which the list has the modes on the wait's
     /// file.
-    fn tell_pair(&mut self, wait: &Wait, q: u8, list: Option<&RangeList>)
+    fn tell_pair(&mut self, wait: &Wait, q: u8, list: Option<&OwnerRuns>)
         requires from_one { 1 ≤ q }
         requires few { q ≤ PROCESSES }
         requires wait { IsWellFormed PROCESSES wait.now }

@@ -6,7 +6,8 @@ ghost use Rattle.lock_book.specs.Books.{byte_modes_of, room_in, ClearsOwner, Rel
 
 use super::Book;
 use crate::Owner;
-use range_core::{Memory, Mode, RangeList, Span};
+use owner_runs::OwnerRuns;
+use range_core::{Memory, Mode, Span};
 
 impl Book {
     /// Sets the owner's mode on just the bytes of the span, or removes it where `mode` is `None`; the owner's room stays
@@ -40,7 +41,7 @@ impl Book {
                 if mode.is_none() {
                     return Ok(());
                 }
-                let mut added = RangeList::new(self.alloc);
+                let mut added = OwnerRuns::new(self.alloc);
                 added.set(span, mode)?;
                 self.owners.add(self.alloc, owner, added)?;
                 let list = self.owners.get(owner).unwrap();
@@ -68,7 +69,7 @@ impl Book {
                 if sets == 0 {
                     return Ok(());
                 }
-                let mut list = RangeList::new(self.alloc);
+                let mut list = OwnerRuns::new(self.alloc);
                 list.reserve(sets)?;
                 self.owners.add(self.alloc, owner, list)?;
                 Ok(())
@@ -134,8 +135,8 @@ impl Book {
 }
 
 /// Whether the list holds neither a lock nor room.
-fn is_idle(list: &RangeList) -> bool
+fn is_idle(list: &OwnerRuns) -> bool
     ensures { IsTrue result ↔ IsIdle list.now }
 {
-    list.room() == 0 && list.runs().is_empty()
+    list.room() == 0 && list.is_empty()
 }

@@ -2,8 +2,7 @@
 ghost use Rattle.std.specs.Prelude.{ℕ, ◌≡◌, ◌<◌, ◌↔◌, nat_lt, None, IfSome, IfNone, IsTrue, MatchOption, All};
 ghost use Rattle.std.specs.Map.{lookup};
 ghost use Rattle.std.specs.Option.{option_copied};
-ghost use Rattle.range_core.specs.Ranges.{IsByteRange};
-ghost use Rattle.range_core.specs.Changes.{modes_of};
+ghost use Rattle.range_core.specs.Ranges.{IsByteRange, IsRun};
 ghost use Rattle.lock_book.specs.Conflicts.{ByteConflict, IsFirstBlocked, IsFirstBlocker, ProcessBlocks};
 ghost use Rattle.lock_book.specs.Owners.{is_from, is_same_owner};
 ghost use Rattle.lock_book.specs.OwnerLists.{AreFound, AreRising, modes_in_list, room_in_list};
@@ -12,7 +11,8 @@ ghost use Rattle.lock_book.specs.Books.{byte_modes_of, room_in};
 use super::index::{holder, owner_of};
 use super::{Book, Lists};
 use crate::{Blocker, Owner};
-use range_core::{Mode, RangeList, Span};
+use owner_runs::OwnerRuns;
+use range_core::{Mode, OFFMAX, Span};
 use std::ops::Bound;
 
 impl Book {
@@ -34,7 +34,7 @@ impl Book {
         ensures { IsTrue result ↔ ByteConflict (byte_modes_of self.now) owner span mode }
     {
         for (other, list) in self.owners.iter() {
-            if has_no_lock(list) {
+            if list.is_empty() {
                 continue;
             }
             if *other != owner && list.first_hit(span, mode).is_some() {
@@ -45,7 +45,7 @@ impl Book {
     }
 
     /// The modes that the owner has, as the runs of a list; `None` where it has none, and holds no room. It takes no memory.
-    pub fn list(&self, owner: Owner) -> Option<&RangeList>
+    pub fn list(&self, owner: Owner) -> Option<&OwnerRuns>
         ensures { (byte : ℕ) → modes_in_list (option_copied result) byte ≡ byte_modes_of self.now owner byte }
     {
         self.owners.get(owner)
@@ -96,32 +96,49 @@ impl Book {
         ensures range { IfSome result (λ blocker. IsByteRange blocker.span) }
         ensures none { IfNone result (¬ ByteConflict (byte_modes_of self.now) owner span mode) }
     {
-        let (byte, other) = self.first_hit(owner, span, mode)?;
-        let (held, run) = self.owners.get(other)?.run_at(byte)?;
-        Some(Blocker {
-            owner: other,
-            mode: held,
-            span: run,
-        })
-    }
-
-    /// The least byte of the span that some other owner blocks, and the least owner that blocks there.
-    fn first_hit(&self, owner: Owner, span: Span, mode: Mode) -> Option<(u64, Owner)>
-        requires { IsByteRange span }
-        ensures hit { IfSome result (λ hit. IsFirstBlocked (byte_modes_of self.now) owner span mode hit.0 hit.1) }
-        ensures none { IfNone result (¬ ByteConflict (byte_modes_of self.now) owner span mode) }
-    {
         let Some(index) = self.index.get() else {
-            return self.first_hit_in_lists(owner, span, mode);
+            return self.first_blocker_in_lists(owner, span, mode);
         };
-        let (byte, first) = index.first_in_the_way(holder(owner), span, mode)?;
-        match owner_of(first) {
-            Some(other) => Some((byte, other)),
-            None => self.first_hit_in_lists(owner, span, mode),
+        let hit = index.first_in_the_way(holder(owner), span, mode)?;
+        let Some(other) = owner_of(hit.holder) else {
+            return self.first_blocker_in_lists(owner, span, mode);
+        };
+        match hit.run {
+            // The run that the search met spares a look among the owner's. The index doesn't tell that its runs lie within a
+            // file, as all do: so its end is looked at.
+            Some(run) if run.span.last <= OFFMAX => Some(Blocker {
+                owner: other,
+                mode: run.mode,
+                span: run.span,
+            }),
+            _ => self.blocker_at(other, hit.byte),
         }
     }
 
-    /// What [`Book::first_hit`] tells, by the lists of all owners in turn.
+    /// The owner's lock on the byte.
+    fn blocker_at(&self, owner: Owner, byte: u64) -> Option<Blocker>
+        ensures owner { IfSome result (λ blocker. blocker.owner ≡ owner) }
+        ensures run { IfSome result (λ blocker. IsRun (byte_modes_of self.now owner) byte blocker.mode blocker.span) }
+        ensures range { IfSome result (λ blocker. IsByteRange blocker.span) }
+        ensures none { IfNone result (byte_modes_of self.now owner byte ≡ None) }
+    {
+        let (mode, span) = self.owners.get(owner)?.run_at(byte)?;
+        Some(Blocker { owner, mode, span })
+    }
+
+    /// What [`Book::first_blocker`] tells, by the lists of all owners in turn.
+    fn first_blocker_in_lists(&self, owner: Owner, span: Span, mode: Mode) -> Option<Blocker>
+        requires { IsByteRange span }
+        ensures some { IfSome result (IsFirstBlocker (byte_modes_of self.now) owner span mode) }
+        ensures range { IfSome result (λ blocker. IsByteRange blocker.span) }
+        ensures none { IfNone result (¬ ByteConflict (byte_modes_of self.now) owner span mode) }
+    {
+        let (byte, other) = self.first_hit_in_lists(owner, span, mode)?;
+        self.blocker_at(other, byte)
+    }
+
+    /// The least byte of the span that some other owner blocks, and the least owner that blocks there, by the lists of all
+    /// owners in turn.
     fn first_hit_in_lists(&self, owner: Owner, span: Span, mode: Mode) -> Option<(u64, Owner)>
         requires { IsByteRange span }
         ensures hit { IfSome result (λ hit. IsFirstBlocked (byte_modes_of self.now) owner span mode hit.0 hit.1) }
@@ -129,7 +146,7 @@ impl Book {
     {
         let mut first: Option<(u64, Owner)> = None;
         for (other, list) in self.owners.iter() {
-            if has_no_lock(list) || *other == owner {
+            if list.is_empty() || *other == owner {
                 continue;
             }
             if let Some(byte) = list.first_hit(span, mode) {
@@ -144,13 +161,6 @@ impl Book {
         }
         first
     }
-}
-
-/// Whether there is no lock in the owner's list: that of an owner that waits mostly holds room alone.
-fn has_no_lock(list: &RangeList) -> bool
-    ensures { IsTrue result ↔ ((byte : ℕ) → modes_of list.now byte ≡ None) }
-{
-    list.runs().is_empty()
 }
 
 /// Whether the byte is lower than the one that was found, if one was.

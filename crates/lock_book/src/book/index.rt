@@ -1,21 +1,19 @@
 //! The runs of all owners of a file together, where there are many owners.
-ghost use Rattle.std.specs.Prelude.{ℕ, ◌≡◌, ◌==◌, ◌<◌, ◌&&◌, ◌||◌, Bool, true, not, IsTrue, IfSome, None, List, All, AllPairs};
-ghost use Rattle.std.specs.List.{list_any};
-ghost use Rattle.range_core.specs.declared.Mode.{Mode};
-ghost use Rattle.range_core.specs.declared.Span.{Span};
-ghost use Rattle.range_core.specs.declared.list.RangeList.{RangeList};
+ghost use Rattle.std.specs.Prelude.{ℕ, ◌≡◌, ◌&&◌, ◌||◌, Bool, true, not, IsTrue, IfSome, None, List, All};
+ghost use Rattle.owner_runs.specs.declared.owner_runs.OwnerRuns.{OwnerRuns};
 ghost use Rattle.range_core.specs.Ranges.{IsByteRange, IsRun};
-ghost use Rattle.range_core.specs.Changes.{modes_of};
+ghost use Rattle.owner_runs.specs.Lists.{modes_of};
 ghost use Rattle.interval_index.specs.declared.Run.{Run};
 ghost use Rattle.interval_index.specs.Standing.{AreRunsOf, HolderModes};
 ghost use Rattle.lock_book.specs.declared.Owner.{Owner};
 ghost use Rattle.lock_book.specs.Conflicts.{ByteModes};
-ghost use Rattle.lock_book.specs.Indexing.{AreIndexed, AreRunsWhere, AreTouched, IsKeptAs, IsKeptOutside, IsKeptWithout, as_holder, holder_modes, is_listed, modes_among, touches};
+ghost use Rattle.lock_book.specs.Indexing.{AreIndexed, AreRunsWhere, IsKeptAs, IsKeptOutside, IsKeptWithout, as_holder, holder_modes, is_listed, modes_among};
 
 use super::lists::OwnerLists;
 use crate::Owner;
 use interval_index::{Holder, Run, RunIndex};
-use range_core::{Mode, RangeList, Span, lists_stand_for_runs};
+use owner_runs::{OwnerRuns, Runs, owners_stand_for_runs};
+use range_core::{Mode, Span};
 use std::alloc::Global;
 
 /// Beyond so many owners a file has an index. It goes where no more are left, with few runs.
@@ -46,13 +44,13 @@ impl OwnersIndex {
 
     /// The index, if there is one: where it keeps the runs of all lists, it tells what each owner has.
     pub fn get(&self) -> Option<&RunIndex>
-        ensures kept { (lists : List (Owner × RangeList)) → AreIndexed self.now lists
+        ensures kept { (lists : List (Owner × OwnerRuns)) → AreIndexed self.now lists
             → IfSome result (λ index. AreRunsWhere (holder_modes (modes_among lists)) (λ run. true) index.now.runs) }
-        ensures told { (lists : List (Owner × RangeList)) → AreIndexed self.now lists
+        ensures told { (lists : List (Owner × OwnerRuns)) → AreIndexed self.now lists
             → IfSome result (λ index. AreRunsOf (holder_modes (modes_among lists)) index.now.runs) }
     {
         // A byte that has a mode lies in some largest range.
-        lists_stand_for_runs();
+        owners_stand_for_runs();
         self.runs.as_deref()
     }
 
@@ -94,18 +92,18 @@ impl OwnersIndex {
     }
 
     /// Takes out the runs of the owner that share a byte with the span or lie right beside it. It takes no memory.
-    pub fn take_out(&mut self, owner: Owner, list: &RangeList, span: Span)
+    pub fn take_out(&mut self, owner: Owner, list: &OwnerRuns, span: Span)
         requires { IsByteRange span }
         ensures { (modes : ByteModes) → ((byte : ℕ) → modes owner byte ≡ modes_of list.now byte) → IsKeptAs self.old modes
             → IsKeptOutside self.new modes owner span }
     {
         if let Some(index) = &mut self.runs {
-            take_runs(index.as_mut(), owner, touching(list, span));
+            take_runs(index.as_mut(), owner, list.touching(span));
         }
     }
 
     /// Takes out all runs of the owner. It takes no memory.
-    pub fn take_all(&mut self, owner: Owner, list: &RangeList)
+    pub fn take_all(&mut self, owner: Owner, list: &OwnerRuns)
         ensures { (modes : ByteModes) → ((byte : ℕ) → modes owner byte ≡ modes_of list.now byte) → IsKeptAs self.old modes
             → IsKeptWithout self.new modes owner }
     {
@@ -116,7 +114,7 @@ impl OwnersIndex {
 
     /// Puts in the runs of the owner that share a byte with the span or lie right beside it, in room that is held; without
     /// that room there is no index any more. It takes no memory.
-    pub fn put_in(&mut self, owner: Owner, list: &RangeList, span: Span)
+    pub fn put_in(&mut self, owner: Owner, list: &OwnerRuns, span: Span)
         requires { IsByteRange span }
         ensures { (modes : ByteModes) → ((byte : ℕ) → modes owner byte ≡ modes_of list.now byte) → IsKeptOutside self.old modes owner span
             → IsKeptAs self.new modes }
@@ -124,50 +122,50 @@ impl OwnersIndex {
         let Some(index) = &mut self.runs else {
             return;
         };
-        if !put_runs(index.as_mut(), owner, touching(list, span)) {
+        if !put_runs(index.as_mut(), owner, list.touching(span)) {
             self.runs = None;
         }
     }
 }
 
 /// Takes out the runs of the owner that begin where these do.
-fn take_runs(index: &mut RunIndex, owner: Owner, list: &[(Mode, Span)])
+fn take_runs(index: &mut RunIndex, owner: Owner, runs: Runs<'_>)
     ensures { (modes : HolderModes) (passes : Run → Bool) → AreRunsWhere modes passes index.old.runs
-        → AreRunsWhere modes (λ run. passes run && not (is_listed (as_holder owner) list.now run)) index.new.runs }
+        → AreRunsWhere modes (λ run. passes run && not (is_listed (as_holder owner) runs.entry run)) index.new.runs }
 {
-    for (_, span) in list {
+    for (_, span) in runs {
         index.take(span.first, holder(owner));
     }
 }
 
 /// Puts in these runs of the owner, in room that is held, and tells whether there was room.
-fn put_runs(index: &mut RunIndex, owner: Owner, list: &[(Mode, Span)]) -> bool
-    requires { All (λ run. IsByteRange run.1) list.now }
+fn put_runs(index: &mut RunIndex, owner: Owner, runs: Runs<'_>) -> bool
+    requires { All (λ run. IsByteRange run.1) runs }
     ensures { IsTrue result → (modes : HolderModes) (passes : Run → Bool)
-        → All (λ run. IsRun (modes (as_holder owner)) run.1.first run.0 run.1) list.now → AreRunsWhere modes passes index.old.runs
-        → AreRunsWhere modes (λ run. passes run || is_listed (as_holder owner) list.now run) index.new.runs }
+        → All (λ run. IsRun (modes (as_holder owner)) run.1.first run.0 run.1) runs.entry → AreRunsWhere modes passes index.old.runs
+        → AreRunsWhere modes (λ run. passes run || is_listed (as_holder owner) runs.entry run) index.new.runs }
 {
-    for (mode, span) in list {
+    for (mode, span) in runs {
         if index.room() == 0 {
             return false;
         }
-        index.put(run_of(owner, *mode, *span));
+        index.put(run_of(owner, mode, span));
     }
     true
 }
 
 /// Puts in these runs of the owner, and tells whether there was memory.
-fn add_runs(index: &mut RunIndex, owner: Owner, list: &[(Mode, Span)]) -> bool
-    requires { All (λ run. IsByteRange run.1) list.now }
+fn add_runs(index: &mut RunIndex, owner: Owner, runs: Runs<'_>) -> bool
+    requires { All (λ run. IsByteRange run.1) runs }
     ensures { IsTrue result → (modes : HolderModes) (passes : Run → Bool)
-        → All (λ run. IsRun (modes (as_holder owner)) run.1.first run.0 run.1) list.now → AreRunsWhere modes passes index.old.runs
-        → AreRunsWhere modes (λ run. passes run || is_listed (as_holder owner) list.now run) index.new.runs }
+        → All (λ run. IsRun (modes (as_holder owner)) run.1.first run.0 run.1) runs.entry → AreRunsWhere modes passes index.old.runs
+        → AreRunsWhere modes (λ run. passes run || is_listed (as_holder owner) runs.entry run) index.new.runs }
 {
-    for (mode, span) in list {
+    for (mode, span) in runs {
         if index.reserve(1).is_err() {
             return false;
         }
-        index.put(run_of(owner, *mode, *span));
+        index.put(run_of(owner, mode, span));
     }
     true
 }
@@ -185,34 +183,6 @@ fn index_of(alloc: Global, owners: &OwnerLists) -> Option<Box<RunIndex>>
     // Where that fails there is still the room that is left.
     let _ = index.reserve(SPARE_RUNS);
     Box::new(alloc, index).ok()
-}
-
-/// The runs of the list that share a byte with the span or lie right beside it.
-fn touching(list: &RangeList, span: Span) -> &[(Mode, Span)]
-    requires { IsByteRange span }
-    ensures each { All (λ run. IsRun (modes_of list.now) run.1.first run.0 run.1) result.now }
-    ensures ranges { All (λ run. IsByteRange run.1) result.now }
-    ensures touch { All (λ run. touches span run.1 ≡ true) result.now }
-    ensures every { (mode : Mode) (run : Span) → IsRun (modes_of list.now) run.first mode run → touches span run ≡ true
-        → list_any (λ listed. listed.1.first == run.first) result.now ≡ true }
-{
-    let runs = list.runs();
-    let (start, end) = touched(runs, span);
-    &runs[start..end]
-}
-
-/// From where to where the runs stand that share a byte with the span or lie right beside it.
-fn touched(runs: &[(Mode, Span)], span: Span) -> (usize, usize)
-    requires span { IsByteRange span }
-    requires rising { AllPairs (λ run other. run.1.last < other.1.first) runs.now }
-    requires ranges { All (λ run. IsByteRange run.1) runs.now }
-    ensures { AreTouched runs.now span result.0 result.1 }
-{
-    let before = span.first.saturating_sub(1);
-    let behind = span.last + 1;
-    let start = runs.partition_point(|run| run.1.last < before);
-    let end = runs.partition_point(|run| run.1.first <= behind);
-    (start, end)
 }
 
 /// The run of an owner.

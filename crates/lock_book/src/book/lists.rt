@@ -9,7 +9,8 @@ ghost use Rattle.lock_book.specs.Kept.{pair_of, unboxed};
 ghost use Rattle.lock_book.specs.OwnerLists.{AreFound, AreRising, PutsFor};
 
 use crate::Owner;
-use range_core::{Memory, RangeList};
+use owner_runs::OwnerRuns;
+use range_core::Memory;
 use std::alloc::Global;
 use std::collections::BTreeMap;
 use std::collections::btree_map::Range;
@@ -27,10 +28,10 @@ pub struct OwnerLists {
 
 impl Model for OwnerLists {
     ghost use Rattle.std.specs.Prelude.{List};
-    ghost use Rattle.range_core.specs.declared.list.RangeList.{RangeList};
+    ghost use Rattle.owner_runs.specs.declared.owner_runs.OwnerRuns.{OwnerRuns};
     ghost use Rattle.lock_book.specs.declared.Owner.{Owner};
 
-    ghost Value = { List (Owner × RangeList) };
+    ghost Value = { List (Owner × OwnerRuns) };
 
     ghost use Rattle.lock_book.specs.Kept.{lists_in};
 
@@ -42,14 +43,14 @@ impl Model for OwnerLists {
 enum Kept {
     Nothing,
     One(OwnedList),
-    Many(BTreeMap<Owner, Box<RangeList>>),
+    Many(BTreeMap<Owner, Box<OwnerRuns>>),
 }
 
 /// An owner with its list.
 #[derive(Drop)]
 struct OwnedList {
     owner: Owner,
-    list: RangeList,
+    list: OwnerRuns,
 }
 
 impl OwnerLists {
@@ -76,7 +77,7 @@ impl OwnerLists {
     }
 
     /// The list of the owner.
-    pub fn get(&self, owner: Owner) -> Option<&RangeList>
+    pub fn get(&self, owner: Owner) -> Option<&OwnerRuns>
         ensures { option_copied result ≡ lookup (is_same_owner owner) self.now }
     {
         match &self.kept {
@@ -93,7 +94,7 @@ impl OwnerLists {
     }
 
     /// The list of the owner, which may be changed.
-    pub fn get_mut(&mut self, owner: Owner) -> Option<&mut RangeList>
+    pub fn get_mut(&mut self, owner: Owner) -> Option<&mut OwnerRuns>
         ensures* lends { sem 𝓛 (LendsList self.entry owner result) }
         ensures value { option_copied_mut result ≡ lookup (is_same_owner owner) self.old }
     {
@@ -103,7 +104,7 @@ impl OwnerLists {
     /// Adds the list of an owner that has none.
     ///
     /// `Memory` leaves the lists as they were.
-    pub fn add(&mut self, alloc: Global, owner: Owner, list: RangeList) -> Result<(), Memory>
+    pub fn add(&mut self, alloc: Global, owner: Owner, list: OwnerRuns) -> Result<(), Memory>
         requires { lookup (is_same_owner owner) self.old ≡ None }
         ensures ok { OnOk result (PutsFor self.old self.new owner (Some list)) }
         ensures err { OnErr result (self.new ≡ self.old) }
@@ -121,7 +122,7 @@ impl OwnerLists {
     }
 
     /// Takes the list of the owner out. It takes no memory.
-    pub fn remove(&mut self, owner: Owner) -> Option<RangeList>
+    pub fn remove(&mut self, owner: Owner) -> Option<OwnerRuns>
         ensures value { result ≡ lookup (is_same_owner owner) self.old }
         ensures puts { PutsFor self.old self.new owner None }
     {
@@ -168,7 +169,7 @@ impl Kept {
     ghost use Rattle.lock_book.specs.Kept.{LendsKept, lists_in};
 
     /// The list of the owner, which may be changed.
-    fn get_mut(&mut self, owner: Owner) -> Option<&mut RangeList>
+    fn get_mut(&mut self, owner: Owner) -> Option<&mut OwnerRuns>
         ensures* lends { sem 𝓛 (LendsKept self.entry owner result) }
         ensures value { option_copied_mut result ≡ lookup (is_same_owner owner) (lists_in self.old) }
     {
@@ -195,13 +196,13 @@ fn map_of(
     alloc: Global,
     one: &mut OwnedList,
     other: OwnedList,
-) -> Result<BTreeMap<Owner, Box<RangeList>>, Memory>
+) -> Result<BTreeMap<Owner, Box<OwnerRuns>>, Memory>
     requires { is_same_owner other.owner one.old.owner ≡ false }
     ensures ok { IfOk result (λ lists. PutsFor (pair_of one.old ∷ []) (unboxed lists.entries) other.owner (Some other.list)) }
     ensures err { OnErr result (one.new ≡ one.old) }
 {
     let mut lists = BTreeMap::new(alloc);
-    let empty = Box::new(alloc, RangeList::new(alloc))?;
+    let empty = Box::new(alloc, OwnerRuns::new(alloc))?;
     lists.insert(one.owner, empty)?;
     let added = Box::new(alloc, other.list)?;
     lists.insert(other.owner, added)?;
@@ -232,15 +233,15 @@ pub struct Lists<'a> {
 #[derive(Drop)]
 enum Left<'a> {
     One(Option<&'a OwnedList>),
-    Many(Range<'a, Owner, Box<RangeList>>),
+    Many(Range<'a, Owner, Box<OwnerRuns>>),
 }
 
 impl<'a> Model for Lists<'a> {
     ghost use Rattle.std.specs.Prelude.{List};
-    ghost use Rattle.range_core.specs.declared.list.RangeList.{RangeList};
+    ghost use Rattle.owner_runs.specs.declared.owner_runs.OwnerRuns.{OwnerRuns};
     ghost use Rattle.lock_book.specs.declared.Owner.{Owner};
 
-    ghost Value = { List (Owner × RangeList) };
+    ghost Value = { List (Owner × OwnerRuns) };
 
     ghost use Rattle.lock_book.specs.Kept.{lists_left};
 
@@ -252,13 +253,13 @@ impl<'a> Iterator for Lists<'a> {
     ghost use Rattle.std.specs.Iterator.{at_most};
     ghost use Rattle.std.specs.Map.Iter.{TakesFirst, deref_pair};
 
-    type Item = (&'a Owner, &'a RangeList);
+    type Item = (&'a Owner, &'a OwnerRuns);
 
     ghost next_gives = { TakesFirst deref_pair };
 
     ghost remaining = { λ lists. at_most (length lists) };
 
-    fn next(&mut self) -> Option<(&'a Owner, &'a RangeList)> {
+    fn next(&mut self) -> Option<(&'a Owner, &'a OwnerRuns)> {
         match &mut self.left {
             Left::One(one) => {
                 let one = one.take()?;

@@ -1,14 +1,15 @@
 //! All that is held on a file.
 ghost use Rattle.std.specs.Prelude.{◌≡◌, true, IfOk, OnOk, All};
 ghost use Rattle.range_core.specs.Ranges.{IsByteRange};
-ghost use Rattle.range_core.specs.Changes.{modes_of};
+ghost use Rattle.owner_runs.specs.Lists.{modes_of};
 ghost use Rattle.lock_book.specs.Reports.{AddsOwnerLocks, AreByteLocks, AreFlockLocks, IsFileReport, IsFlockLine};
 ghost use Rattle.lock_book.specs.Books.{byte_modes_of, flock_modes_of};
 ghost use Rattle.lock_book.specs.Changes.{whole_file};
 
 use super::Book;
 use crate::{Held, Owner};
-use range_core::{Memory, Mode, RangeList, Span};
+use owner_runs::OwnerRuns;
+use range_core::{Memory, Mode, Span};
 
 impl Book {
     /// All locks on the file, whose number is only written down: owners rising, the runs of each rising, and then the
@@ -61,7 +62,7 @@ fn flock_line(file: u8, description: u64, mode: Mode) -> Held
 }
 
 /// Appends the runs of one owner, by first byte.
-fn push_runs(locks: &mut Vec<Held>, file: u8, owner: Owner, list: &RangeList) -> Result<(), Memory>
+fn push_runs(locks: &mut Vec<Held>, file: u8, owner: Owner, list: &OwnerRuns) -> Result<(), Memory>
     ensures { OnOk result (AddsOwnerLocks file owner (modes_of list.now) locks.old.items locks.new.items) }
 {
     for (mode, span) in list.runs() {
@@ -69,8 +70,8 @@ fn push_runs(locks: &mut Vec<Held>, file: u8, owner: Owner, list: &RangeList) ->
             file,
             whole: false,
             owner,
-            mode: *mode,
-            span: *span,
+            mode,
+            span,
         })?;
     }
     Ok(())

@@ -6,11 +6,12 @@ ghost use Rattle.lock_manager.specs.MachineView.{machine_locks};
 
 use super::Machine;
 use lock_book::Owner;
-use range_core::{Mode, RangeList};
+use owner_runs::OwnerRuns;
+use range_core::Mode;
 
 impl Machine {
     /// The modes of the owner's byte locks on the file, as the runs of a list: none where there is no such file.
-    pub fn byte_locks(&self, file: u8, owner: Owner) -> Option<&RangeList>
+    pub fn byte_locks(&self, file: u8, owner: Owner) -> Option<&OwnerRuns>
         ensures { (byte : ℕ) → modes_in_list (option_copied result) byte ≡ (machine_locks self.now).bytes file owner byte }
     {
         self.books.get(usize::from(file))?.list(owner)

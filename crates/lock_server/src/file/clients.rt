@@ -95,7 +95,7 @@ impl LockFile {
         ensures { IsTrue result ↔ HasByteLock (file_state self.now) owner }
     {
         match self.book.list(Owner::Description(owner)) {
-            Some(list) => !list.runs().is_empty(),
+            Some(list) => !list.is_empty(),
             None => false,
         }
     }

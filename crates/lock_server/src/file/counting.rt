@@ -43,7 +43,7 @@ impl LockFile {
         ensures { result ≡ runs_of ((file_state self.now).bytes owner) }
     {
         match self.book.list(Owner::Description(owner)) {
-            Some(list) => list.runs().len(),
+            Some(list) => list.len(),
             None => 0,
         }
     }

@@ -4,14 +4,14 @@ ghost use Rattle.lock_server.specs.FileView.{file_state};
 ghost use Rattle.lock_server.specs.Inventory.{AreByteLocks, AreJust, AreLocksOf, IsEntryOf};
 ghost use Rattle.lock_server.specs.Listing.{IsFlockLock, flock_place};
 ghost use Rattle.lock_server.specs.Words.{Puts, PutsSome};
-ghost use Rattle.range_core.specs.Changes.{modes_of};
+ghost use Rattle.owner_runs.specs.Lists.{modes_of};
 ghost use Rattle.std.specs.Prelude.{◌≡◌, ℕ};
 ghost use Rattle.std.specs.List.{flat_map};
 
 use super::LockFile;
 use crate::{FlockLock, Lock, Pending, words};
 use lock_book::Owner;
-use range_core::RangeList;
+use owner_runs::OwnerRuns;
 
 #[tactic(auto, unfolding(crate::specs::FileView::file_state))]
 impl LockFile {
@@ -51,17 +51,13 @@ impl LockFile {
     }
 
     /// Puts the byte locks of the owner, by first byte; this is its list.
-    fn put_runs(&self, out: &mut [u8], at: usize, owner: u64, list: &RangeList) -> usize
+    fn put_runs(&self, out: &mut [u8], at: usize, owner: u64, list: &OwnerRuns) -> usize
         requires { (byte : ℕ) → modes_of list.now byte ≡ (file_state self.now).bytes owner byte }
         ensures { PutsSome (AreLocksOf (file_state self.now) owner) (flat_map lock_words) out.old at out.new result }
     {
         let mut behind = at;
         for (mode, span) in list.runs() {
-            let lock = Lock {
-                owner,
-                mode: *mode,
-                span: *span,
-            };
+            let lock = Lock { owner, mode, span };
             behind = put_lock(out, behind, lock);
         }
         behind

@@ -1,6 +1,5 @@
 //! Which waits on one file a change of its locks may free, where each is blocked before it.
 ghost use Rattle.std.specs.Prelude.{◌≡◌, ℕ, IfNone, IfSome, IsFalse, None, Some};
-ghost use Rattle.range_core.specs.Changes.{modes_of};
 ghost use Rattle.range_core.specs.Ranges.{Covers, HeldConflicts, IsByteRange};
 ghost use Rattle.lock_server.specs.Files.{ClearsBytes, SetsFlock};
 ghost use Rattle.lock_server.specs.FileView.{file_state};
@@ -10,7 +9,6 @@ use super::LockFile;
 use crate::freed::{Freed, Reach};
 use crate::{Family, Mode, Policy, Span};
 use lock_book::Owner;
-use range_core::RangeList;
 
 #[tactic(auto, unfolding(crate::specs::FileView::file_state))]
 impl LockFile {
@@ -88,7 +86,7 @@ impl LockFile {
         ensures none { IfNone result ((byte : ℕ) → (file_state self.now).bytes owner byte ≡ None) }
     {
         match self.book.list(Owner::Description(owner)) {
-            Some(list) => extent_of(list),
+            Some(list) => list.extent(),
             None => None,
         }
     }
@@ -105,18 +103,4 @@ impl LockFile {
             None => Freed::Nobody,
         }
     }
-}
-
-/// From the first byte of the list to the last; `None` where it has none.
-fn extent_of(list: &RangeList) -> Option<Span>
-    ensures some { IfSome result (λ span. (byte : ℕ) → (¬ Covers span byte) → modes_of list.now byte ≡ None) }
-    ensures none { IfNone result ((byte : ℕ) → modes_of list.now byte ≡ None) }
-{
-    let runs = list.runs();
-    let first = runs.first()?;
-    let last = runs.last()?;
-    Some(Span {
-        first: first.1.first,
-        last: last.1.last,
-    })
 }

@@ -1,6 +1,6 @@
 //! What an owner has already of what a request is for.
 ghost use Rattle.std.specs.Prelude.{◌↔◌, ℕ, IfNone, IfSome, IsTrue};
-ghost use Rattle.range_core.specs.Changes.{modes_of};
+ghost use Rattle.owner_runs.specs.Lists.{modes_of};
 ghost use Rattle.range_core.specs.Ranges.{Covers, IsByteRange};
 ghost use Rattle.lock_server.specs.FileView.{file_state};
 ghost use Rattle.lock_server.specs.Lacking.{IsFirstLacking};
@@ -9,7 +9,7 @@ ghost use Rattle.lock_server.specs.Settling.{HasAlready, IsAtLeast};
 use super::LockFile;
 use crate::{Family, Mode, Pending, Span};
 use lock_book::Owner;
-use range_core::RangeList;
+use owner_runs::OwnerRuns;
 
 #[tactic(auto, unfolding(crate::specs::FileView::file_state))]
 impl LockFile {
@@ -37,7 +37,7 @@ impl LockFile {
 }
 
 /// Whether the list has at least the mode on each byte of the span.
-fn has_throughout(list: &RangeList, span: Span, mode: Mode) -> bool
+fn has_throughout(list: &OwnerRuns, span: Span, mode: Mode) -> bool
     requires { IsByteRange span }
     ensures { IsTrue result ↔ ((byte : ℕ) → Covers span byte → IsAtLeast (modes_of list.now byte) mode) }
 {
@@ -45,7 +45,7 @@ fn has_throughout(list: &RangeList, span: Span, mode: Mode) -> bool
 }
 
 /// The first byte of the span on which the list hasn't at least the mode.
-pub(crate) fn first_lacking(list: &RangeList, span: Span, mode: Mode) -> Option<u64>
+pub(crate) fn first_lacking(list: &OwnerRuns, span: Span, mode: Mode) -> Option<u64>
     requires { IsByteRange span }
     ensures some { IfSome result (IsFirstLacking (modes_of list.now) span mode) }
     ensures none { IfNone result ((byte : ℕ) → Covers span byte → IsAtLeast (modes_of list.now byte) mode) }

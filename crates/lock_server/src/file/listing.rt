@@ -2,8 +2,7 @@
 ghost use Rattle.std.specs.Prelude.{◌≡◌, ℕ, ◌<◌, ◌≤◌, [], ◌∷◌, Any, List, IfSome, IfNone, None, Some, false, length, slice_get, take};
 ghost use Rattle.std.specs.BTreeSet.{contains};
 ghost use Rattle.std.specs.Ordering.{nat_cmp};
-ghost use Rattle.std.specs.List.Sorted.{IsNonDecreasingBy, IsPartitionPoint};
-ghost use Rattle.range_core.specs.Changes.{modes_of};
+ghost use Rattle.owner_runs.specs.Lists.{modes_of};
 ghost use Rattle.range_core.specs.Ranges.{IsByteRange};
 ghost use Rattle.lock_server.specs.FileView.{file_state};
 ghost use Rattle.lock_server.specs.Listing.{BeginBefore, flock_place, IsByteLock, IsFirstConflict, IsFirstRunFrom, IsFlockInTheWay, IsFlockLock, IsNextFrom, IsObstacle, IsWaitAmong, IsWaitAt, lock_place, number_behind, wait_place};
@@ -14,7 +13,8 @@ use crate::hull::Hull;
 use crate::owner_waits::earlier_of;
 use crate::{Family, FlockLock, Lock, Mode, Obstacle, OwnerWait, Pending, Policy, Span, Waiting};
 use lock_book::Owner;
-use range_core::RangeList;
+use owner_runs::OwnerRuns;
+use range_core::OFFMAX;
 use std::collections::BTreeSet;
 use std::ops::Bound;
 use summary_tree::Walk;
@@ -189,21 +189,25 @@ fn next_in(owners: &BTreeSet<u64>, above: Option<u64>) -> Option<u64>
 }
 
 /// The first of the runs that begin at this byte or behind it.
-fn run_from(list: &RangeList, byte: u64) -> Option<(Mode, Span)>
+fn run_from(list: &OwnerRuns, byte: u64) -> Option<(Mode, Span)>
     ensures first { IfSome result (IsFirstRunFrom (modes_of list.now) byte) }
     ensures none { IfNone result (BeginBefore (modes_of list.now) byte) }
 {
-    let runs = list.runs();
-    let place = beginning_before(runs, byte);
-    Some(*runs.get(place)?)
-}
-
-/// How many of the runs, which come in order, begin before the byte.
-fn beginning_before(runs: &[(Mode, Span)], byte: u64) -> usize
-    requires { IsNonDecreasingBy (λ run. run.1.first) runs.now }
-    ensures { IsPartitionPoint (λ run. run.1.first < byte) (λ run. byte ≤ run.1.first) runs.now result }
-{
-    runs.partition_point(|run| run.1.first < byte)
+    // The proof reads from all runs that none reaches beyond the last byte of a file.
+    let all = list.runs();
+    if OFFMAX < byte {
+        return None;
+    }
+    let mut runs = list.touching(Span {
+        first: byte,
+        last: OFFMAX,
+    });
+    let run = runs.next()?;
+    if byte <= run.1.first {
+        return Some(run);
+    }
+    // No other one begins before the byte.
+    runs.next()
 }
 
 /// The waits on a file, here of this number, that are asked for: of owners up to the last, from this one on.

@@ -1,7 +1,7 @@
 //! The bytes on which a search for a cycle looked for locks.
 ghost use Rattle.std.specs.Prelude.{◌≡◌, ◌↔◌, ℕ, Option, None, IfSome, IfNone, OnOk};
 ghost use Rattle.range_core.specs.declared.Mode.{Mode};
-ghost use Rattle.range_core.specs.Changes.{modes_of};
+ghost use Rattle.owner_runs.specs.Lists.{modes_of};
 ghost use Rattle.range_core.specs.Ranges.{Covers, HeldConflicts, IsByteRange};
 ghost use Rattle.lock_server.specs.Lacking.{IsFirstPartLacking};
 ghost use Rattle.lock_server.specs.LookedAt.{looked_modes, NotesLook};
@@ -9,7 +9,7 @@ ghost use Rattle.lock_server.specs.Settling.{IsAtLeast};
 
 use crate::file::having::first_lacking;
 use crate::{Memory, Mode, Span};
-use range_core::RangeList;
+use owner_runs::OwnerRuns;
 use std::alloc::Global;
 use std::collections::BTreeMap;
 
@@ -17,7 +17,7 @@ use std::collections::BTreeMap;
 #[derive(Drop)]
 pub struct LookedAt {
     alloc: Global,
-    files: BTreeMap<u64, RangeList>,
+    files: BTreeMap<u64, OwnerRuns>,
 }
 
 impl LookedAt {
@@ -51,7 +51,7 @@ impl LookedAt {
         if let Some(looked) = self.files.get_mut(&file) {
             return looked.set(span, Some(mode));
         }
-        let mut looked = RangeList::new(self.alloc);
+        let mut looked = OwnerRuns::new(self.alloc);
         looked.set(span, Some(mode))?;
         self.files.insert(file, looked)?;
         Ok(())
@@ -59,7 +59,7 @@ impl LookedAt {
 }
 
 /// The first part of the span on no byte of which the list has at least the mode.
-fn first_part_lacking(looked: &RangeList, span: Span, mode: Mode) -> Option<Span>
+fn first_part_lacking(looked: &OwnerRuns, span: Span, mode: Mode) -> Option<Span>
     requires { IsByteRange span }
     ensures some { IfSome result (IsFirstPartLacking (modes_of looked.now) span mode) }
     ensures none { IfNone result ((byte : ℕ) → Covers span byte → IsAtLeast (modes_of looked.now byte) mode) }

@@ -1,6 +1,6 @@
-use Rattle.wait_core.proofs.Common.{◌≡◌, ◌∙◌, true, false, sym, arith, common_steps, eqb-true, All-nil, iter_end, modes_of, locks_of}
+use Rattle.wait_core.proofs.Common.{◌≡◌, ◌∙◌, true, false, sym, arith, common_steps, All-nil, iter_end, locks_of}
 use Rattle.std.specs.Map.Iter.{deref_pair}
-use Rattle.wait_core.proofs.ListedLemmas.{IsToldIfBlocking, all_after_put, all_after_skip, free_without_runs, lists_at, modes_in_loop, never_without_modes, only_after_put, told_at_description, told_at_end}
+use Rattle.wait_core.proofs.ListedLemmas.{IsToldIfBlocking, all_after_put, all_after_skip, lists_at, modes_in_loop, never_without_modes, only_after_put, told_at_description, told_at_end}
 use Rattle.wait_core.proofs.ProcessLemmas.{none_in}
 use Rattle.wait_core.proofs.Wait.blocking_by_lock.Goals as goal
 use Rattle.wait_core.proofs.Wait.blocking_by_lock.Goals.{else-contains-via-then-contains+else-is_blocked_by_list, else-contains-via-else-contains}
@@ -33,7 +33,7 @@ loop-other-preserved-then-is_empty c =
     (omega (arith, c.requires.file, c.from.ensures)) c.index-books-from.is c.from.ensures c.lists-other-items.ensures.modes in
     let modes = modes_in_loop lists _ are c.loop-other.yielded _ _ _ _ (c.in-Some.other, c.in-Some.list)
     gives c.loop-other.yielded_by c.in-Some.is c.next.ensures.steps c.lists-other-items.ensures.found c.in-Process.process c.in-Process.is in
-    let free = free_without_runs (modes_of c.in-Some.list.now) c.runs.result.now c.runs.ensures.runs (eqb-true _ _ (sym c.if-is_empty.ensures)) in
+    let free = c.is_empty.ensures.free.0 c.if-is_empty.true in
     record {
       can_next = tt;
       is_finite = tt;

@@ -16,8 +16,8 @@ returns-then-is_some c =
       λ _. refl,
     )
 
-pub loop-other-preserved-then-has_no_lock : goal.loop-other-preserved-then-has_no_lock
-loop-other-preserved-then-has_no_lock c =
+pub loop-other-preserved-then-is_empty : goal.loop-other-preserved-then-is_empty
+loop-other-preserved-then-is_empty c =
     let gives = c.into_iter-other-iterator.ensures.into_iter_gives ∙ c.iter-other-items.ensures.lists in
     let modes = modes_in_loop c.args.self.now c.loop-other.yielded _ _ _ _ (c.in-Some.other, c.in-Some.list)
     gives c.loop-other.yielded_by c.in-Some.is c.next.ensures.steps c.iter-other-items.ensures.found in (
@@ -25,7 +25,7 @@ loop-other-preserved-then-has_no_lock c =
       tt,
       All-push (λ x. NeverBlocks (byte_modes_of c.args.self.now) c.args.owner c.args.span c.args.mode x.0.now) c.loop-other.yielded
           (c.in-Some.other, c.in-Some.list) c.loop-other.invariant.2
-          (never_without_modes _ _ _ _ _ (rw modes (c.has_no_lock.ensures.0 c.if-has_no_lock.true))),
+          (never_without_modes _ _ _ _ _ (rw modes (c.is_empty.ensures.free.0 c.if-is_empty.true))),
     )
 
 pub loop-other-preserved : goal.loop-other-preserved

@@ -2,18 +2,18 @@ use Rattle.lock_book.proofs.Common.{◌∙◌, ◌≡◌, sym, true, false, dere
 use Rattle.lock_book.proofs.OwnerLemmas.{owner_eq, same_from_eq, different_from_eq}
 use Rattle.lock_book.proofs.BlockLemmas.{NeverBlocks, least_skip, least_replaces, least_stays, none_from_least, first_from_least, modes_in_loop, before_in_loop, never_itself, never_from_none, never_without_modes, first_at_start}
 use Rattle.lock_book.proofs.book.Book.first_hit_in_lists.Goals as goal
-use Rattle.lock_book.proofs.book.Book.first_hit_in_lists.Goals.{then-has_no_lock-via-then-has_no_lock, then-has_no_lock-via-else-has_no_lock+then-eq}
+use Rattle.lock_book.proofs.book.Book.first_hit_in_lists.Goals.{then-is_empty-via-then-is_empty, then-is_empty-via-else-is_empty+then-eq}
 
-pub loop-other-preserved-then-has_no_lock : goal.loop-other-preserved-then-has_no_lock
-loop-other-preserved-then-has_no_lock c =
+pub loop-other-preserved-then-is_empty : goal.loop-other-preserved-then-is_empty
+loop-other-preserved-then-is_empty c =
     let gives = c.into_iter-other-iterator.ensures.into_iter_gives ∙ c.iter-other-items.ensures.lists in
     let modes = modes_in_loop c.args.self.now c.loop-other.yielded _ _ _ _ (c.in-Some.other, c.in-Some.list)
     gives c.loop-other.yielded_by c.in-Some.is c.next.ensures.steps c.iter-other-items.ensures.found in
     let never : NeverBlocks (byte_modes_of c.args.self.now) c.args.owner c.args.span c.args.mode c.in-Some.other.now =
-    elim c.then-has_no_lock.branch [
-      | then-has_no_lock-via-then-has_no_lock w ↦
-          never_without_modes _ _ _ _ _ (rw modes (c.has_no_lock.ensures.0 w.if-has_no_lock.true))
-      | then-has_no_lock-via-else-has_no_lock+then-eq w ↦
+    elim c.then-is_empty.branch [
+      | then-is_empty-via-then-is_empty w ↦
+          never_without_modes _ _ _ _ _ (rw modes (c.is_empty.ensures.free.0 w.if-is_empty.true))
+      | then-is_empty-via-else-is_empty+then-eq w ↦
           (let test : true ≡ owner_eq c.in-Some.other.now c.args.owner = w.if-eq.ensures in
           never_itself _ _ _ _ _ (same_from_eq _ _ (sym test)))
     ] in (

@@ -1,4 +1,4 @@
-use Rattle.lock_book.proofs.Common.{common_steps, ◌≡◌, ◌∙◌, ap, sym, subst, true, refl, Some, None, Option, arith, if◌then◌else◌, Mode, is_covered, modes_of, RangeList, modes_in_list, byte_modes_of}
+use Rattle.lock_book.proofs.Common.{common_steps, ◌≡◌, ◌∙◌, ap, sym, subst, true, refl, Some, None, Option, arith, if◌then◌else◌, Mode, is_covered, modes_of, OwnerRuns, modes_in_list, byte_modes_of}
 use Rattle.range_core.specs.Ranges.{SplitsRun}
 use Rattle.lock_book.proofs.BookLemmas.{room_kept, list_of-not_lent, list_written, PutsAt-adds, PutsAt-removes, PutsList-puts, SetsOwnerMode-puts, SetsOwnerMode-nothing, SameBook-puts, none_from_test, in_use_by_mode, still_in_use}
 use Rattle.lock_book.proofs.KeptLemmas.{AreKept-left, AreKept-list, AreKept-removed, indexed_added, indexed_set, found_added, indexed_again, PutsIn}
@@ -83,7 +83,7 @@ invariant_of-self-in-None c =
     (indexed_added book c.add.new.self c.args.owner added c.prepare_set.new.self c.put_in-in-None.new.self c.args.span c.args.mode puts c.prepare_set.ensures none
     (λ byte. c.in_ok-set-in-None.ensures.ok byte
     ∙ ap (λ (other : Option Mode). if is_covered c.args.span byte then c.args.mode else other) (c.new-added.ensures.modes byte))
-    (subst (λ (l : RangeList). PutsIn c.prepare_set.new.self c.put_in-in-None.new.self c.args.owner l c.args.span)
+    (subst (λ (l : OwnerRuns). PutsIn c.prepare_set.new.self c.put_in-in-None.new.self c.args.owner l c.args.span)
     (sym (found_added book c.add.new.self c.args.owner added c.get.result c.unwrap-list.result puts c.get.ensures c.unwrap-list.ensures))
     c.put_in-in-None.ensures)) in
     record { in_use = kept.in_use; indexed = kept.indexed }
@@ -115,7 +115,7 @@ returns-in-Err-clause-unlock c unlock whole =
     let list = c.set.new.self in
     let owners = c.get_mut.follows.lender list in
     let written = list_written book owners c.args.owner _ _ list c.get_mut.ensures.value c.in-Some.is (c.get_mut.follows.holds list) in
-    absurd (false≢true (c.in-Err.ensures.unlock unlock (λ splits. whole (subst (λ (l : Option RangeList). SplitsRun (modes_in_list l) c.args.span) (sym written.0) splits))))
+    absurd (false≢true (c.in-Err.ensures.unlock unlock (λ splits. whole (subst (λ (l : Option OwnerRuns). SplitsRun (modes_in_list l) c.args.span) (sym written.0) splits))))
 
 pub returns-else-is_idle-clause-room : goal.returns-else-is_idle-clause-room
 returns-else-is_idle-clause-room c =

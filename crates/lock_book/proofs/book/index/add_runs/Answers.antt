@@ -1,18 +1,26 @@
-use Rattle.lock_book.proofs.Common.{◌||◌, List, sym, subst, take, Run, AreRunsWhere, as_holder, is_listed, take_all}
+use Rattle.lock_book.proofs.Common.{◌||◌, List, sym, subst, IsRun, Run, AreRunsWhere, as_holder, is_listed}
 use Rattle.lock_book.proofs.IndexLemmas.{puts_all, puts_none, puts_step}
+use Rattle.owner_runs.proofs.ForCallers.{all_came, next_item}
 use Rattle.lock_book.proofs.book.index.add_runs.Goals as goal
 
 pub loop-mode-init : goal.loop-mode-init
-loop-mode-init c modes passes each are = puts_none (as_holder c.args.owner) c.args.list.now modes passes c.args.index.now.runs are
+loop-mode-init c = (tt, tt, λ modes passes each are. puts_none (as_holder c.args.owner) modes passes c.args.index.now.runs are)
 
 pub loop-mode-preserved : goal.loop-mode-preserved
-loop-mode-preserved c modes passes each are =
-    puts_step (as_holder c.args.owner) c.args.list.now modes passes c.loop-mode.mode-index _ c.loop-mode-test.true c.reserve.new.self.runs c.put.new.self.runs c.run_of.result
-    c.run_of.ensures c.put.ensures.runs each
-    (subst (λ (l : List Run). AreRunsWhere modes (λ run. passes run || is_listed (as_holder c.args.owner) (take c.loop-mode.mode-index c.args.list.now) run) l)
-    (sym c.reserve.ensures.runs) (c.loop-mode.invariant modes passes each are))
+loop-mode-preserved c = (
+  tt,
+  tt,
+  λ modes passes each are.
+      let its = next_item c.args.runs c.loop-mode.yielded _ _ _ _ c.into_iter-mode-iterator.ensures.into_iter_gives c.loop-mode.yielded_by c.next.ensures.steps
+      (λ run. IsRun (modes (as_holder c.args.owner)) run.1.first run.0 run.1) (c.in-Some.mode, c.in-Some.span) c.in-Some.is each in
+      puts_step (as_holder c.args.owner) modes passes c.loop-mode.yielded (c.in-Some.mode, c.in-Some.span) c.reserve.new.self.runs c.put.new.self.runs c.run_of.result
+      c.run_of.ensures c.put.ensures.runs its
+      (subst (λ (l : List Run). AreRunsWhere modes (λ run. passes run || is_listed (as_holder c.args.owner) c.loop-mode.yielded run) l)
+      (sym c.reserve.ensures.runs) (c.loop-mode.invariant.2 modes passes each are)),
+)
 
 pub returns : goal.returns
 returns c told modes passes each are =
-    puts_all (as_holder c.args.owner) c.args.list.now modes passes c.loop-mode.index.runs c.loop-mode.mode-index
-    (take_all c.loop-mode.mode-index c.args.list.now c.loop-mode-test.false) (c.loop-mode.invariant modes passes each are)
+    puts_all (as_holder c.args.owner) modes passes c.loop-mode.index.runs c.loop-mode.yielded c.args.runs
+    (all_came c.args.runs c.loop-mode.yielded _ _ _ _ c.into_iter-mode-iterator.ensures.into_iter_gives c.loop-mode.yielded_by c.next.ensures.steps c.in-None.is)
+    (c.loop-mode.invariant.2 modes passes each are)

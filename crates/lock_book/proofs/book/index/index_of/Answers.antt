@@ -9,9 +9,9 @@ loop-owner-preserved c =
     let same = modes_of_next c.args.owners.now c.loop-owner.yielded _ _ _ _ (c.in-Some.owner, c.in-Some.list) gives c.loop-owner.yielded_by c.in-Some.is c.next.ensures.steps c.iter-owner-items.ensures.found in (
       tt,
       tt,
-      more_indexed entries c.loop-owner.yielded (c.in-Some.owner, c.in-Some.list) c.runs.result.now c.add_runs.new.index.runs same c.runs.ensures.runs
+      more_indexed entries c.loop-owner.yielded (c.in-Some.owner, c.in-Some.list) c.runs.result c.add_runs.new.index.runs same c.runs.ensures.runs
           (c.add_runs.ensures c.if-not-add_runs.false (holder_modes (modes_among entries)) (IsOfItems entries c.loop-owner.yielded)
-          (each_held (modes_among entries) c.in-Some.owner.now c.in-Some.list.now same c.runs.result.now c.runs.ensures.runs.each) c.loop-owner.invariant.2),
+          (each_held (modes_among entries) c.in-Some.owner.now c.in-Some.list.now same c.runs.result c.runs.ensures.runs.each) c.loop-owner.invariant.2),
     )
 
 pub returns : goal.returns

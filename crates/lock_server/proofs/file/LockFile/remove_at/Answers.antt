@@ -23,6 +23,7 @@ invariant_of-self c =
             ranges = ranges_left items c.take.new.self.items c.args.place wait within is c.take.ensures.rest c.args.self.now.ranges;
             room = room_left items c.take.new.self.items c.args.place wait within is c.take.ensures.rest c.args.self.now.book c.args.self.now.room;
             numbers = c.args.self.now.numbers;
+            in_file = c.args.self.now.in_file;
             known = c.args.self.now.known;
           }
       | inr (past, none) ↦ absurd (omega (arith, past, within))

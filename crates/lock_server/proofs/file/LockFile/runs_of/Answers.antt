@@ -5,7 +5,8 @@ use Rattle.lock_server.proofs.file.LockFile.runs_of.Goals as goal
 pub returns-in-Some : goal.returns-in-Some
 unfolding file_state
 returns-in-Some c =
-    count_runs (modes_of c.in-Some.list.now) c.runs.result.now c.runs.ensures.runs c.runs.ensures.ranges
+    let counted = c.len.ensures in
+    counted.3 ∙ count_runs (modes_of c.in-Some.list.now) counted.0 counted.1 counted.2
     ∙ runs_of_same (modes_of c.in-Some.list.now) ((file_state c.args.self.now).bytes c.args.owner) c.in-Some.ensures
 
 pub returns-in-None : goal.returns-in-None

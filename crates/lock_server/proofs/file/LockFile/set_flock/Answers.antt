@@ -1,5 +1,6 @@
 use Rattle.lock_server.proofs.Common.{arith, common_steps, keeps_place}
 use Rattle.lock_server.proofs.FlockOwnerLemmas.{AreKnown-sets}
+use Rattle.lock_server.proofs.InFileLemmas.{in_file_kept}
 use Rattle.lock_server.proofs.RoomLemmas.{HasRoom-kept, KeepsRoom-sets}
 use Rattle.lock_server.proofs.file.LockFile.set_flock.Goals as goal
 
@@ -9,6 +10,7 @@ invariant_of-self c = record {
   ranges = c.args.self.now.ranges;
   room = grind (arith, common_steps, HasRoom-kept, KeepsRoom-sets);
   numbers = grind (arith, common_steps);
+  in_file = in_file_kept c.args.self.now.book c.flock_set_reserved.new.self c.flock_set_reserved.ensures.sets.bytes c.args.self.now.in_file;
   known = grind (arith, common_steps, AreKnown-sets);
 }
 

@@ -6,4 +6,4 @@ returns-clause-kept c lists indexed = kept_by_index c.args.self.now lists indexe
 
 pub returns-clause-told : goal.returns-clause-told
 returns-clause-told c lists indexed =
-    told_by_index c.lists_stand_for_runs.ensures c.args.self.now lists indexed c.as_deref.result c.as_deref.ensures.cases
+    told_by_index c.owners_stand_for_runs.ensures c.args.self.now lists indexed c.as_deref.result c.as_deref.ensures.cases
