@@ -1,5 +1,5 @@
 -- The places of words and of faults: for `tokens` and `told_of`.
-use Rattle.std.proofs.Common.{◌≡◌, ◌≢◌, ℕ, ◌-◌, ◌<◌, ◌≤◌, ◌⊎◌, Bool, true, List, [], ◌∷◌, ◌++◌, All, length, get_or, min, inl, inr, refl, sym, subst, arith}
+use Rattle.std.proofs.Common.{◌≡◌, ◌≢◌, ℕ, ◌-◌, ◌<◌, ◌≤◌, ◌⊎◌, Bool, true, List, [], ◌∷◌, ◌++◌, All, length, get_or, inl, inr, refl, sym, subst, arith}
 use Rattle.std.proofs.Math.Nat.{eq-or-lt_of_le}
 use Rattle.std.proofs.lemmas.Grind.{common_steps}
 use Rattle.std.proofs.lemmas.List.Elements.{All-append}
@@ -7,7 +7,7 @@ use Rattle.script_core.specs.declared.script.Cause.{Cause}
 use Rattle.script_core.specs.declared.script.Cause.TheVariants.{Byte, Word, Count, Number, Process, TooLong, Memory, Tag}
 use Rattle.diagnosis.specs.declared.language.Language.{Language}
 use Rattle.diagnosis.specs.declared.tokens.Token.{Token}
-use Rattle.diagnosis.specs.Places.{BeginsWord, IsOfWord, IsOfStray, IsPlaceOf, has_bars, line_max}
+use Rattle.diagnosis.specs.Places.{BeginsWord, IsOfWord, IsPlaceOf, has_bars}
 
 -- in front of the place is a space, or the word in front ends there
 front_of : (bars : Bool) (line : List ℕ) (end place : ℕ) → (end ≡ place) ⊎ (end < place)

@@ -1,6 +1,5 @@
 -- Where a caret may stand (this project's choice).
 use Rattle.std.specs.Prelude.{◌≡◌, ◌≢◌, ℕ, ◌-◌, ◌<◌, ◌≤◌, Bool, true, false, List, length, slice_index, min}
-use Rattle.range_core.specs.declared.Memory.{Memory as Want}
 use Rattle.script_core.specs.declared.TheConstants.{LINE_MAX, ENTRY_MAX}
 use Rattle.script_core.specs.declared.script.Cause.{Cause}
 use Rattle.script_core.specs.declared.script.Cause.TheVariants.{Byte, Word, Count, Number, Process, TooLong, Memory, Tag}

@@ -1,5 +1,5 @@
 -- What is told of an order and of the locks that it leaves: for `push_order`, `push_state` and others.
-use Rattle.std.proofs.Common.{◌≡◌, ◌≢◌, ◌<◌, ℕ, ◌+◌, ◌∙◌, sym, ap, refl, subst, inl, inr, arith, true, false, Bool, Option, Some, None, List, [], ◌∷◌, ◌++◌, map, drop, drop-cons, add-one, suc, zero, get_or, length, flat_map, append_assoc, append-nil}
+use Rattle.std.proofs.Common.{◌≡◌, ◌≢◌, ◌<◌, ℕ, ◌+◌, ◌∙◌, sym, ap, refl, subst, arith, false, None, List, [], ◌∷◌, ◌++◌, map, drop, drop-cons, add-one, suc, zero, get_or, length, flat_map, append_assoc, append-nil}
 use Rattle.std.specs.Prelude.{All}
 use Rattle.std.specs.BTreeMap.{BTreeMap, get, is_at}
 use Rattle.std.specs.Borrow.{Bor}
@@ -10,7 +10,6 @@ use Rattle.std.proofs.lemmas.Grind.{common_steps, flat_map-append}
 use Rattle.std.proofs.lemmas.List.{map-append}
 use Rattle.std.proofs.lemmas.List.Elements.{All-push}
 use Rattle.history_core.specs.declared.held_locks.HeldLocks.{HeldLocks}
-use Rattle.history_core.specs.HeldView.{locks_in}
 use Rattle.history_core.specs.Locks.{FileLocks}
 use Rattle.history_core.specs.Locks as one_file
 use Rattle.history_judge.specs.declared.order.FileHappening.{FileHappening}

@@ -1,19 +1,17 @@
 -- The locks on all files that happenings leave.
-use Rattle.history_judge.proofs.Common.{inl, inr, ℕ, ◌≡◌, ◌≢◌, ◌∙◌, sym, ap, subst, refl, arith, true, false, Bool, Option, Some, None, Err, common_steps, BTreeMap, UpdatesBy, get, nat_cmp, Request, FileHappening}
+use Rattle.history_judge.proofs.Common.{inl, inr, ℕ, ◌≡◌, ◌≢◌, ◌∙◌, sym, ap, subst, refl, true, false, Bool, Some, None, Err, BTreeMap, UpdatesBy, get, nat_cmp, Request, FileHappening}
 use Rattle.std.proofs.Common.{Result, Ok, IfOk, OnErr}
 use Rattle.range_core.specs.declared.memory.Memory.{Memory}
-use Rattle.range_core.specs.declared.Mode.{Mode}
-use Rattle.range_core.specs.declared.Span.{Span}
 use Rattle.history_core.specs.declared.held_locks.HeldLocks.{HeldLocks}
 use Rattle.history_core.specs.declared.order.Deed.{Deed}
 use Rattle.history_core.specs.declared.order.Deed.TheVariants.{Effect, LetGo}
 use Rattle.history_core.specs.declared.request.Action.{Action}
 use Rattle.history_core.specs.declared.request.Action.TheVariants.{Set, Wait, Get, Unlock, Flock, FlockWait, FlockUnlock, Close, Gone}
 use Rattle.history_core.specs.HeldView.{locks_in}
-use Rattle.history_core.specs.Locks.{FileLocks, BlocksBytes, BlocksFlock}
+use Rattle.history_core.specs.Locks.{FileLocks}
 use Rattle.history_core.specs.Locks as one_file_locks
 use Rattle.history_core.specs.Orders.{MayDo}
-use Rattle.history_core.specs.Permitted.{Did, FlockMay, FlockWaitMay, GetMay, MayHave, NotYet, RemovalMay, Saw, SetMay, WaitMay, WasBlocked, locks_behind}
+use Rattle.history_core.specs.Permitted.{Did, FlockWaitMay, GetMay, MayHave, NotYet, RemovalMay, Saw, WaitMay, WasBlocked, locks_behind}
 use Rattle.history_core.specs.Permitted as permitted
 use Rattle.history_judge.specs.declared.held_files.HeldFiles.{HeldFiles}
 use Rattle.history_judge.specs.Entries.{Rewrites}

@@ -1,16 +1,16 @@
 -- The orders of the files are merged to one of the whole history.
-use Rattle.history_judge.proofs.Common.{inl, inr, ℕ, ◌≡◌, ◌≢◌, ◌∙◌, ◌+◌, ◌<◌, ◌==◌, sym, ap, refl, subst, arith, Bool, Option, Some, None, List, [], ◌∷◌, ◌++◌, map, eq-eqb, common_steps, append_assoc, option_map, if◌then◌else◌, Happening, FileLine, World, beginning, FileHappening, Answered, HistoryLine, Moment, Sent, beginnings, line_of, lines_among, Sending, AreNamed, IsNamed, lines_of, none_open, open_behind, beyond, front, left_in, lefts_in, true, BTreeMap, get, nat_cmp, FileHistory, Files, FileOrder, file_in, keeps_in, requests_of}
+use Rattle.history_judge.proofs.Common.{inl, inr, ℕ, ◌≡◌, ◌≢◌, ◌∙◌, ◌+◌, ◌<◌, sym, ap, refl, subst, arith, Bool, Option, Some, None, List, [], ◌∷◌, ◌++◌, map, eq-eqb, common_steps, option_map, if◌then◌else◌, Happening, FileLine, World, beginning, FileHappening, Answered, HistoryLine, Moment, Sent, beginnings, line_of, lines_among, Sending, AreNamed, IsNamed, lines_of, none_open, open_behind, beyond, front, left_in, lefts_in, true, BTreeMap, get, nat_cmp, FileHistory, Files, FileOrder, file_in, keeps_in, requests_of}
 use Rattle.std.specs.Prelude.{⊤}
 use Rattle.history_core.specs.Locks.{FileLocks}
 use Rattle.history_core.specs.Moments as one_file
 use Rattle.history_core.specs.Orders as file_orders
 use Rattle.history_judge.specs.Histories.{Comes}
 use Rattle.history_judge.specs.FilesApart.{AreNamedFrom, lines_from}
-use Rattle.history_judge.specs.HistoryOrders.{IsLeft, Leave, MayHappen, OrderTo, Tells, no_locks}
+use Rattle.history_judge.specs.HistoryOrders.{IsLeft, Leave, OrderTo, Tells}
 use Rattle.history_judge.specs.Merging.{Left, file_of, file_sent, files_from, files_of, left_behind, merged, pass, passed, told_as}
 use Rattle.history_judge.proofs.NameLemmas.{Named, decide, named_same, neq-eqb}
 use Rattle.history_judge.proofs.ApartLemmas.{Home, apart, home_answered, home_sent}
-use Rattle.history_judge.proofs.MergeLemmas.{lines-append, named_first, new_of, same_worlds, with_world, world_here, world_off}
+use Rattle.history_judge.proofs.MergeLemmas.{lines-append, named_first, new_of, with_world, world_here, world_off}
 use Rattle.history_judge.specs.declared.judge.HistoryJudge.{HistoryJudge}
 use Rattle.history_judge.specs.FileOrders.{AreMerged, AreOrders}
 use Rattle.history_judge.specs.FilesView as all_files

@@ -1,6 +1,6 @@
 -- A line of a file passes, and what happened behind it is told.
-use Rattle.history_judge.proofs.Common.{inl, inr, ℕ, ◌≡◌, ◌∙◌, ◌+◌, ◌<◌, sym, ap, refl, arith, Option, Some, None, List, [], ◌∷◌, ◌++◌, common_steps, cases_Bool, append_assoc, Happening, FileHappening, FileOrder, beyond, front, left_in}
-use Rattle.std.proofs.Common.{length, drop, drop-cons, get_or, add-one, suc}
+use Rattle.history_judge.proofs.Common.{inl, inr, ℕ, ◌≡◌, ◌∙◌, ◌+◌, ◌<◌, sym, ap, refl, arith, Option, List, [], ◌∷◌, ◌++◌, common_steps, cases_Bool, append_assoc, Happening, FileHappening, FileOrder, beyond, front, left_in}
+use Rattle.std.proofs.Common.{length, drop, drop-cons, get_or, add-one}
 use Rattle.std.specs.Prelude.{nat_le}
 use Rattle.history_judge.specs.Merging.{Left, merged, pass, passed}
 

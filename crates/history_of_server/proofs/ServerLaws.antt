@@ -5,7 +5,7 @@ use Rattle.history_core.specs.declared.request.Action.TheVariants as actions
 use Rattle.history_judge.specs.Histories.{beginnings}
 use Rattle.lock_server.specs.declared.Rules.{Rules}
 use Rattle.lock_server.specs.declared.server.LockServer.{LockServer}
-use Rattle.lock_server.specs.Agreement.{Call, CallComesTo, Reply, Tells, Through, WithTicket}
+use Rattle.lock_server.specs.Agreement.{Call, CallComesTo, Reply, Through, WithTicket}
 use Rattle.lock_server.specs.Agreement as calls
 use Rattle.lock_server.specs.Calls.{CancelComesTo, FetchComesTo, FlockWaitComesTo, byte_request, flock_request}
 use Rattle.lock_server.specs.ServerView.{rules_of, state_of, through_of}

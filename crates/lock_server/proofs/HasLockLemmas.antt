@@ -1,6 +1,6 @@
 -- Whether owners from a first number to a last one have a lock: for the calls named `has_locks` of `LockFile` and `LockServer`.
-use Rattle.lock_server.proofs.Common.{ℕ, ◌≡◌, ◌+◌, ◌<◌, ◌≤◌, ◌∙◌, inl, inr, sym, ap, subst, refl, arith, true, false, not, Bool, Option, Some, None, List, [], ◌∷◌, length, ◌↔◌, IsTrue, is_some, common_steps, cases_eq, cases_lt, nat_tests, Mode, Span, AreRuns, Modes, HasByteLock, HasFlockLock, HaveLocksOn, is_within, FileState, SameFile, untouched}
-use Rattle.std.specs.Prelude.{◌==◌, ◌⊎◌}
+use Rattle.lock_server.proofs.Common.{ℕ, ◌≡◌, ◌+◌, ◌<◌, ◌≤◌, ◌∙◌, inl, inr, sym, subst, refl, arith, true, false, not, Bool, Option, Some, None, ◌↔◌, IsTrue, is_some, common_steps, cases_eq, cases_lt, nat_tests, Mode, Modes, HasByteLock, HasFlockLock, HaveLocksOn, is_within, FileState, SameFile, untouched}
+use Rattle.std.specs.Prelude.{◌⊎◌}
 use Rattle.lock_server.proofs.ClearedLemmas.{within_ends}
 
 -- an owner among these of whom this holds

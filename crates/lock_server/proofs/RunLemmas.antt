@@ -1,5 +1,5 @@
 -- The first run from a byte on: for `run_from`.
-use Rattle.lock_server.proofs.Common.{ℕ, zero, suc, ◌≡◌, ◌+◌, ◌<◌, ◌≤◌, ◌∙◌, inl, inr, cases_lt, ap, sym, subst, arith, Option, Some, None, List, [], ◌∷◌, All, Any, length, get_or, Mode, Span, AreRuns, Covers, IsByteRange, IsRun, Modes}
+use Rattle.lock_server.proofs.Common.{ℕ, zero, suc, ◌≡◌, ◌+◌, ◌<◌, ◌≤◌, ◌∙◌, inl, inr, cases_lt, ap, sym, subst, arith, Option, Some, None, List, [], ◌∷◌, All, Any, length, get_or, Mode, Span, AreRuns, IsByteRange, IsRun, Modes}
 use Rattle.std.specs.Prelude.{IfNone, IfSome}
 use Rattle.std.specs.Map.Iter.{TakesFirst}
 use Rattle.range_core.specs.declared.TheConstants.{OFFMAX}

@@ -1,11 +1,7 @@
 -- What the parts of a server's export tell: for `LockServer::import`.
-use Rattle.lock_server.proofs.Common.{ℕ, ◌≡◌, ◌∙◌, ◌≤◌, sym, ap, subst, refl, arith, inl, inr, Bool, true, false, All, Any, Option, Some, None, List, [], ◌∷◌, length, map, if◌then◌else◌, IsTrue, common_steps, All-head, All-tail}
-use Rattle.lock_server.proofs.Common.{Mode, Span, OwnerRuns, is_covered, modes_of, Covers, IsByteRange, Owner, Description, Book, byte_modes_of, modes_in_list, FlockLock, Lock, Pending, LockFile, FilePart, Parts, Table, file_state, state_at, FileState, SameFile, untouched, AreNotesOf, AreOf, AreFiles, AreJust, FileEntry, IsInventory, Note, SaysFile, note_place, IsByteLock, MayLock, MayStand, MayWait, inventory_of, note_of, IsSafe, HasDetected, table_state}
+use Rattle.lock_server.proofs.Common.{ℕ, ◌≡◌, ◌∙◌, sym, ap, subst, refl, arith, inl, inr, true, false, All, Any, Option, Some, None, List, [], ◌∷◌, length, map, IsTrue}
+use Rattle.lock_server.proofs.Common.{Mode, Covers, Description, FlockLock, Lock, Pending, LockFile, FilePart, Parts, Table, file_state, state_at, FileState, SameFile, untouched, AreNotesOf, AreOf, AreFiles, AreJust, FileEntry, IsInventory, Note, SaysFile, note_place, IsByteLock, MayLock, MayStand, MayWait, inventory_of, note_of, IsSafe, HasDetected, table_state}
 use Rattle.std.specs.Prelude.{◌≢◌, Contains}
-use Rattle.std.proofs.lemmas.Bool.{leb-true}
-use Rattle.range_core.specs.declared.TheConstants.{OFFMAX}
-use Rattle.range_core.specs.Changes.{mode_in}
-use Rattle.lock_book.specs.Books.{list_of}
 use Rattle.lock_server.specs.declared.import.parts.Note.{Note as NotePart}
 use Rattle.lock_server.specs.Reading.{entry_of}
 use Rattle.lock_server.specs.TableView.{entry_of as file_entry_of}

@@ -1,5 +1,5 @@
 -- Where a flag stands among the words of a command line: for `given_words`.
-use Rattle.std.proofs.Common.{◌≡◌, ℕ, ◌+◌, ◌<◌, ◌≤◌, ap₂, ◌∙◌, sym, ap, refl, List, [], ◌∷◌, ◌++◌, append_assoc, arith, get_or, map, take, drop, length, Bool, true, false, codes, slice_index_or, if◌then◌else◌}
+use Rattle.std.proofs.Common.{◌≡◌, ℕ, ◌+◌, ◌<◌, ◌≤◌, ap₂, ◌∙◌, sym, ap, refl, List, [], ◌∷◌, ◌++◌, append_assoc, arith, get_or, map, take, drop, length, true, false, codes, slice_index_or}
 use Rattle.std.specs.Str.{bytes_eq}
 use Rattle.std.proofs.lemmas.List.{append-nil, drop-map, drop_more, get_or-map, length-map, map-append, take-append-drop, take_all, take-map, take_more}
 use Rattle.std.proofs.Math.ListN.{drop_of_length-le}

@@ -244,6 +244,16 @@ freed_behind old new mode byte run is free next begins set =
       ends = λ has. next.whole.behind (sym (set.above (run.1.last + 1) (omega arith)) ∙ has ∙ ap Some (sym is));
     }
 
+-- modes that are the same on each byte have the same runs to split
+pub splits_alike : (modes other : Modes) (span : Span) → ((byte : ℕ) → other byte ≡ modes byte) → SplitsRun other span → SplitsRun modes span
+splits_alike modes other span same splits = record {
+  mode = splits.mode;
+  around = splits.around;
+  before = splits.before;
+  behind = splits.behind;
+  constant = λ byte on. sym (same byte) ∙ splits.constant byte on;
+}
+
 -- where a run is split, its first byte in the range has its mode
 pub split_has : (modes : Modes) (span : Span) → span.first ≤ span.last → (splits : SplitsRun modes span) → modes span.first ≡ Some splits.mode
 split_has modes span some splits =

@@ -17,10 +17,10 @@ const FEW_RUNS: usize = 64;
 
 /// The modes of one lock owner on the bytes of one file, seen as a mode, or none, for each byte.
 ///
-/// It may hold room for further sets, which then can't fail. Beyond 64 runs they are moved into a tree by the next set of a mode
-/// or the next reservation, where there is memory for it, so that neither an unlock nor a set in room that was held wants
-/// any. The tree stays when runs go, since an unlock that made a list of it would want memory; [`OwnerRuns::clear`] makes a
-/// list again, which has no run and so wants none.
+/// It may hold room for further sets, which then can't fail. Beyond 64 runs they are moved into a tree, where there is memory
+/// for it, by the next set that may want memory anyway: of a mode, an unlock that splits a run, or a reservation. So neither
+/// another unlock nor a set in room that was held asks for any. The tree stays when runs go, since an unlock that made a list
+/// of it would want memory; [`OwnerRuns::clear`] makes a list again, which has no run and so wants none.
 #[derive(Drop)]
 pub struct OwnerRuns {
     kept: Kept,
@@ -58,12 +58,27 @@ impl OwnerRuns {
         ensures unlock { mode ≡ None → (¬ SplitsRun (modes_of self.old) span) → IsOk result }
         ensures err { OnErr result (SameRuns self.old self.new) }
     {
-        if mode.is_some() {
-            self.plant();
-        }
+        self.ready(span, mode);
         match &mut self.kept {
             Kept::Few(list) => list.set(span, mode),
             Kept::Many(tree) => tree.set(span, mode),
+        }
+    }
+
+    /// Moves many runs into a tree before a set that may want memory anyway, where there is some.
+    fn ready(&mut self, span: Span, mode: Option<Mode>)
+        ensures { SameRuns self.old self.new }
+    {
+        if mode.is_some() || self.is_inside_a_run(span) {
+            self.plant();
+        }
+    }
+
+    /// Whether some run reaches beyond the span at both ends.
+    fn is_inside_a_run(&self, span: Span) -> bool {
+        match self.run_at(span.first) {
+            Some((_, run)) => run.first < span.first && span.last < run.last,
+            None => false,
         }
     }
 

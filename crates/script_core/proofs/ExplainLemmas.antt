@@ -1,6 +1,6 @@
 -- The run that is made again, step by step: for `write_explained`, clause `ok`.
-use Rattle.script_core.proofs.Common.{common_steps, rules, ℕ, zero, suc, ◌≡◌, ◌+◌, ◌-◌, ◌<◌, ◌≤◌, Option, Bool, List, [], ◌∷◌, ◌++◌, length, All, inl, inr, take, drop, get_or, refl, sym, ap, subst, ◌∙◌, arith, append_assoc, append-nil, add-one, Result, true, MatchResult, if◌then◌else◌, codes, decimal, slice_index, drop-cons, take-append_seam, take_all, length-take, cases_Bool}
-use Rattle.script_core.proofs.Common.{FILES, descriptor_limit, Held, mode_in, flock_mode_in, IsHeldReport, Policy, Wait, IsTraditional, Rules, Lock, LkCmd, FlockOp, Note, InTheWay, Request, OpenFile, Dup, DupTo, CloseFd, Seek, Resize, Lk, Flock, Fork, Exit, Signal, Kill, Enter, Leave, Bail, Manager, Visit, State, Visits, opening_state, locks_held, is_together, IsSettled, Step, AsksFor, StepHasOneOutcome, StandsFor, processes_of, Event, IsStep, Leads, entry_line, tag, Extends, Link, States, StateLine, TellsState, IsWithinFiles, TellsCycleIfAny, closed_by, lost, is_deadlock, obstacle_line, deadlock_line, loss_lines, Explains, ExplainsRun, together_line, together_lines}
+use Rattle.script_core.proofs.Common.{common_steps, rules, ℕ, suc, ◌≡◌, ◌+◌, ◌-◌, ◌<◌, ◌≤◌, Option, Bool, List, [], ◌∷◌, ◌++◌, length, All, inl, inr, take, drop, get_or, refl, sym, ap, subst, ◌∙◌, arith, append_assoc, append-nil, add-one, Result, true, MatchResult, if◌then◌else◌, codes, drop-cons, take-append_seam, take_all, length-take, cases_Bool}
+use Rattle.script_core.proofs.Common.{FILES, descriptor_limit, Held, mode_in, flock_mode_in, IsHeldReport, Policy, Wait, IsTraditional, Rules, Lock, LkCmd, FlockOp, Note, InTheWay, Request, OpenFile, Dup, DupTo, CloseFd, Seek, Resize, Lk, Flock, Fork, Exit, Signal, Kill, Enter, Leave, Bail, Manager, Visit, State, Visits, opening_state, locks_held, is_together, IsSettled, Step, AsksFor, StepHasOneOutcome, StandsFor, processes_of, Event, IsStep, Leads, entry_line, Extends, Link, States, StateLine, TellsState, IsWithinFiles, TellsCycleIfAny, closed_by, lost, is_deadlock, obstacle_line, deadlock_line, loss_lines, Explains, ExplainsRun, together_line, together_lines}
 use Rattle.std.proofs.Common.{IfOk, OnErr, OnOk}
 use Rattle.std.proofs.lemmas.List.{take_more}
 use Rattle.lock_manager.specs.Asking.{AsksForBytes, AsksForWhole}

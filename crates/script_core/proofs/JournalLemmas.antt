@@ -1,6 +1,6 @@
 -- The lines of a journal: what their first words say, that each has one meaning, and that a journal has one end; for `journals_have_one_end`,
 -- `JournalReader::next` and `Place::parse_head`.
-use Rattle.script_core.proofs.Common.{rules, ◌≡◌, ℕ, ◌+◌, ◌<◌, true, Option, Some, Result, Ok, Err, List, [], ◌∷◌, length, take, refl, sym, ◌∙◌, subst, arith, MatchResult, common_steps, cases_lt, length-take-le, take_all, Limits, Event, Stage, Place, JournalLine, Cause, words_of, AreSkipped, is_comment, HeadGives, JournalReading, Legal, JournalGives, reading_behind}
+use Rattle.script_core.proofs.Common.{rules, ◌≡◌, ℕ, ◌+◌, Option, Some, Result, Ok, Err, List, [], ◌∷◌, take, sym, ◌∙◌, subst, arith, MatchResult, common_steps, cases_lt, length-take-le, take_all, Limits, Event, Stage, Place, JournalLine, Cause, AreSkipped, is_comment, HeadGives, JournalReading, Legal, JournalGives, reading_behind}
 use Rattle.range_core.specs.Facts.{MatchFact}
 use Rattle.script_core.specs.declared.place.JournalLine.TheVariants as lines
 use Rattle.script_core.specs.JournalReading.{OtherGives, BodyGives, TextGives, HasOneMeaning, JournalEnd, Faulty, Illegal, JournalsHaveOneEnd, MayGoOn, MayEnd, is_header, is_report_word}

@@ -1,5 +1,5 @@
 -- Which locks go with an event: for `write_explained`, clause `ok`.
-use Rattle.script_core.proofs.Common.{cases_lt, eqb-true, ℕ, zero, suc, ◌≡◌, ◌+◌, ◌<◌, ◌==◌, ◌&&◌, ◌||◌, not, Bool, true, false, IsFalse, inl, inr, Option, Some, None, Result, Ok, Err, List, [], ◌∷◌, ◌++◌, length, map, MatchBool, refl, sym, ap, subst, ◌∙◌, arith, add-one, append-nil}
+use Rattle.script_core.proofs.Common.{cases_lt, ℕ, zero, suc, ◌≡◌, ◌+◌, ◌<◌, ◌&&◌, ◌||◌, Bool, true, false, inl, inr, Option, Some, None, Result, Ok, Err, List, [], ◌∷◌, ◌++◌, map, MatchBool, refl, sym, ap, subst, ◌∙◌, arith, add-one, append-nil}
 use Rattle.script_core.proofs.Common.{Mode, Span, Modes, AreRuns, Look, Held, Owner, Process, Description, mode_in, flock_mode_in, State, Manager, StandsFor, Closing, is_such, any_open, is_alive, keeps, stays_open, byte_line, flock_line}
 use Rattle.std.proofs.Common.{IfOk}
 use Rattle.owner_runs.specs.declared.owner_runs.OwnerRuns.{OwnerRuns}

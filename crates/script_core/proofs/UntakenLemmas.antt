@@ -1,6 +1,6 @@
 -- What was never taken, process by process: for `write_untaken`, clause `ok`.
-use Rattle.script_core.proofs.Common.{common_steps, ℕ, zero, suc, ◌≡◌, ◌+◌, ◌-◌, ◌<◌, ◌≤◌, Option, Some, None, List, [], ◌∷◌, ◌++◌, length, refl, sym, ap, ◌∙◌, arith, append_assoc, append-nil, add-one, codes, decimal, slice_index, ProcState, Event, ProcessLine, tag, AreCounts, line_of, more_text, untaken_line, untaken_lines}
-use Rattle.script_core.specs.Explaining.{never_taken_line, untaken_reason}
+use Rattle.script_core.proofs.Common.{common_steps, ℕ, zero, suc, ◌≡◌, ◌+◌, ◌-◌, ◌<◌, ◌≤◌, Some, None, List, [], ◌∷◌, ◌++◌, length, refl, sym, ap, ◌∙◌, arith, append_assoc, append-nil, add-one, codes, decimal, slice_index, ProcState, Event, ProcessLine, tag, AreCounts, line_of, more_text, untaken_line, untaken_lines}
+use Rattle.script_core.specs.Explaining.{untaken_reason}
 
 -- of one request and more
 pub never_taken_more : (line : ProcessLine) (reason : List ℕ) → line.taken < line.sent → untaken_reason line.state ≡ Some reason

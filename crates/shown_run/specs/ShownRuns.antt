@@ -1,5 +1,5 @@
 -- What a run shows that is to fail, and what comes of it (the words are this project's choice).
-use Rattle.std.specs.Prelude.{◌≡◌, ℕ, Ok, List, Any, codes}
+use Rattle.std.specs.Prelude.{ℕ, Ok, List, Any, codes}
 use Rattle.lock_manager.specs.State.{State}
 use Rattle.lock_manager.specs.declared.request.Errno.TheVariants.{EBADF}
 use Rattle.session_core.specs.Event.{Event}

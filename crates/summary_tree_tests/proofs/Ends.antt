@@ -1,5 +1,5 @@
 -- Tests that all numbers pass, or none, cut each list.
-use Rattle.std.proofs.Common.{Bool, true, false, ◌≡◌, ℕ, List, [], ◌∷◌, refl}
+use Rattle.std.proofs.Common.{true, false, ◌≡◌, ℕ, List, [], ◌∷◌, refl}
 use Rattle.std.specs.List.{AllByRecursion}
 use Rattle.summary_tree.specs.Cuts.{IsCutBy}
 

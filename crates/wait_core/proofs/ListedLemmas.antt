@@ -11,7 +11,7 @@ use Rattle.std.proofs.lemmas.Map.Entries.{place_from_lookup}
 use Rattle.std.proofs.lemmas.Map.Iter.{rest_so_far, rest_more}
 use Rattle.std.proofs.lemmas.Option.{slice_get_within}
 use Rattle.owner_runs.specs.declared.owner_runs.OwnerRuns.{OwnerRuns}
-use Rattle.range_core.specs.Ranges.{AreRuns, HeldConflicts, Modes}
+use Rattle.range_core.specs.Ranges.{HeldConflicts}
 use Rattle.lock_book.specs.declared.Owner.TheVariants.{Description}
 use Rattle.lock_book.specs.declared.book.Book.{Book}
 use Rattle.lock_book.specs.Books.{byte_modes_of}

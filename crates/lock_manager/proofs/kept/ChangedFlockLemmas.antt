@@ -1,6 +1,6 @@
 -- What holds of the machine after a change of one flock lock: for `Machine::begin_flock`, `Machine::change_flock`, `Machine::place_flock` and
 -- `Machine::test_flock`.
-use Rattle.lock_manager.proofs.Common.{common_steps, ℕ, ◌≡◌, ◌≢◌, ◌<◌, ◌≤◌, ◌⊎◌, inl, inr, refl, sym, ◌∙◌, ap, subst, List, [], ◌∷◌, ◌++◌, length, Some, None, Option, Bool, true, false, arith, Result, Ok, Err, OnOk, OnErr, slice_get, slice_set, ◌==◌, ◌&&◌, if◌then◌else◌, ∥∥₁_map, ∥∥₁_elim, eqb-true, and_parts, eqb_tells}
+use Rattle.lock_manager.proofs.Common.{common_steps, ℕ, ◌≡◌, ◌<◌, ◌≤◌, ◌⊎◌, inl, inr, refl, sym, ◌∙◌, subst, List, [], ◌∷◌, ◌++◌, length, Some, None, Option, Bool, true, false, arith, Result, Ok, Err, OnOk, OnErr, slice_get, slice_set, ◌==◌, ◌&&◌, if◌then◌else◌, ∥∥₁_map, ∥∥₁_elim, eqb-true, and_parts, eqb_tells}
 use Rattle.lock_manager.proofs.Common.{Memory, Mode, Read, Write, HeldConflicts, Owner, Process, Description, Book, flock_modes_of, room_in, SameBook, FlockChange, flock_mode_from, FlockModes, Tables, Wait, Waits, Look, wanted_flock, Locks, locks_of, flock_modes_at, IsFreeOfCycles, IsBlockedIn, AreBlockedElsewhere, waits_of, AreTold, FreeWhenDescriptionLocksChange, Machine, State, with_flock_mode, AreCompatible, IsOpenOn, AreOwned, MayLock, Shows, machine_locks, machine_state, machine_waits, AreKept, AreApart, HaveRoom, has_place_at, SameWaits, Bytes, Whole}
 use Rattle.std.proofs.lemmas.Bool.{or_right}
 use Rattle.lock_book.specs.Books.{has_flock_place, SetsFlock, ReservesFlock}

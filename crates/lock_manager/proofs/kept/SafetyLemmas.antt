@@ -1,5 +1,5 @@
 -- No owners conflict after a change that nothing blocked: for `Machine::new`.
-use Rattle.lock_manager.proofs.Common.{arith, ℕ, ◌≡◌, ◌≢◌, ◌<◌, refl, sym, ◌∙◌, ap, subst, List, [], ◌∷◌, ◌++◌, Some, None, Option, Bool, true, false, All, ◌==◌, ◌&&◌, if◌then◌else◌, slice_get, slice_set, Result, OnOk, OnErr, length, eq-eqb, and_parts, common_steps}
+use Rattle.lock_manager.proofs.Common.{arith, ℕ, ◌≡◌, ◌≢◌, ◌<◌, refl, sym, ◌∙◌, subst, List, [], ◌∷◌, ◌++◌, Some, None, Option, Bool, true, false, All, ◌==◌, ◌&&◌, if◌then◌else◌, slice_get, slice_set, Result, OnOk, OnErr, length, eq-eqb, and_parts, common_steps}
 use Rattle.lock_manager.proofs.Common.{Memory, Book, SetsOwnerMode, SameBook, Mode, Span, Covers, HeldConflicts, is_covered, Owner, is_same_owner, ByteConflict, Policy, Wait, Locks, locks_of, IsFreeOfCycles, AreCompatible, HoldsNothing}
 use Rattle.std.proofs.Common.{eqb-true, leb-true}
 use Rattle.lock_manager.proofs.kept.BookLemmas.{unlocked_bytes, unlocked_flocks, changed, after_set}

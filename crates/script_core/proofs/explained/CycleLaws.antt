@@ -1,5 +1,5 @@
 -- The steps that tell a cycle are determined, where no two waits are of one process.
-use Rattle.script_core.proofs.Common.{arith, rules, ◌≡◌, ◌≢◌, ℕ, zero, suc, ◌<◌, ◌≤◌, ◌⊎◌, inl, inr, true, false, IsTrue, Option, Some, None, List, [], ◌∷◌, ◌++◌, All, Any, length, take, slice_get, refl, sym, ap, ◌∙◌, subst, common_steps, All-head, All-tail, Held, LocksHaveOneReport, mode_in, flock_mode_in, Policy, Wait, InTheWay, State, locks_held, Event, Link, Wanted, IsLockAgainst, IsWaitAgainst, IsCycle}
+use Rattle.script_core.proofs.Common.{arith, ◌≡◌, ◌≢◌, ℕ, zero, suc, ◌⊎◌, inl, inr, Some, None, List, [], ◌∷◌, ◌++◌, All, length, take, slice_get, refl, sym, ap, ◌∙◌, subst, common_steps, All-head, All-tail, Held, LocksHaveOneReport, mode_in, flock_mode_in, Policy, Wait, InTheWay, State, locks_held, Event, Link, Wanted, IsLockAgainst, IsWaitAgainst}
 use Rattle.std.proofs.lemmas.Bool.{cases_order}
 use Rattle.std.specs.List.{AllByRecursion as Each}
 use Rattle.lock_manager.specs.declared.request.InTheWay.TheVariants as obstacles

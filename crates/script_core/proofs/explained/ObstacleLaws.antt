@@ -1,11 +1,11 @@
 -- What is the first in the way of an event's request is determined.
-use Rattle.script_core.proofs.Common.{arith, rules, ◌≡◌, ◌≢◌, ℕ, ◌≤◌, ◌⊎◌, inl, inr, IsTrue, Option, Some, None, List, refl, sym, ap, ◌∙◌, subst, common_steps, same_Some, Mode, Span, Modes, Held, Owner, Process, Description, ByteModes, FlockModes, Family, Bytes, Whole, Policy, Wait, IsBlocked, Locks, InTheWay, Rules, State, locks_held, Event}
+use Rattle.script_core.proofs.Common.{arith, rules, ◌≡◌, ℕ, ◌≤◌, inl, inr, Option, Some, None, List, refl, sym, ap, ◌∙◌, subst, common_steps, same_Some, Mode, Span, Modes, Held, Owner, ByteModes, FlockModes, Family, Bytes, Whole, Policy, Wait, IsBlocked, Locks, InTheWay, Rules, State, locks_held, Event}
 use Rattle.std.proofs.lemmas.Bool.{cases_order}
 use Rattle.range_core.specs.Ranges.{IsRun, HeldConflicts}
 use Rattle.lock_book.specs.declared.Blocker.{Blocker}
 use Rattle.lock_book.specs.Conflicts.{IsFirstBlocked, IsFirstBlocker}
 use Rattle.wait_core.specs.declared.Policy.TheVariants as policies
-use Rattle.wait_core.specs.Blocking.{IsBlockedIn, IsBlockedByLock, WaitsConflict}
+use Rattle.wait_core.specs.Blocking.{IsBlockedIn, WaitsConflict}
 use Rattle.lock_manager.specs.declared.request.InTheWay.TheVariants as obstacles
 use Rattle.lock_manager.specs.Asking.{IsFirstByteLock, IsFirstFlock, IsFirstLockOf, IsFirstInTheWay}
 use Rattle.script_core.specs.Explaining.{StandsInTheWay}

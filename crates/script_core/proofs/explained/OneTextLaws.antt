@@ -1,8 +1,8 @@
 -- What explains a run, and a script, is one text.
-use Rattle.script_core.proofs.Common.{arith, rules, ◌≡◌, ℕ, ◌+◌, Ok, List, [], ◌∷◌, ◌++◌, length, refl, sym, ap, ◌∙◌, subst, common_steps, descriptor_limit, Held, LocksHaveOneReport, InTheWay, Rules, State, opening_state, StepHasOneOutcome, Event, requests_sent, IsStep, Link, States, entry_line, Meaning, processes_in, IsReport, IsWithinFiles, closed_by, lost, TellsState, Explains, ExplainsRun, untaken_lines}
+use Rattle.script_core.proofs.Common.{arith, rules, ◌≡◌, ℕ, ◌+◌, List, [], ◌∷◌, ◌++◌, length, sym, ap, ◌∙◌, subst, common_steps, descriptor_limit, LocksHaveOneReport, Rules, State, opening_state, StepHasOneOutcome, Event, requests_sent, States, entry_line, Meaning, processes_in, IsReport, IsWithinFiles, closed_by, TellsState, Explains, ExplainsRun, untaken_lines}
 use Rattle.session_core.specs.Draining.{IsDrain}
 use Rattle.session_core.specs.OneDrain.{ArrivalsHaveOneDrain}
-use Rattle.script_core.specs.Explaining.{IsExplained, RunsHaveOneExplanation, ScriptsHaveOneExplanation}
+use Rattle.script_core.specs.Explaining.{RunsHaveOneExplanation, ScriptsHaveOneExplanation}
 use Rattle.script_core.proofs.FilesLemmas.{opening_files, step_files}
 use Rattle.script_core.proofs.OutputLaws.{one_meaning, one_report}
 use Rattle.script_core.proofs.explained.CycleLaws.{TellsDeadlock-unique}

@@ -1,5 +1,5 @@
 -- What is told of a state, or of what changed, is determined.
-use Rattle.script_core.proofs.Common.{arith, rules, ◌≡◌, ℕ, ◌==◌, Bool, true, false, MatchBool, List, [], ◌∷◌, ◌++◌, refl, sym, ap, ◌∙◌, subst, common_steps, descriptor_limit, mode_in, flock_mode_in, LocksHaveOneReport, Rules, State, StateLine, States, AreStateLines, IsStateText, IsChangesText, TellsState}
+use Rattle.script_core.proofs.Common.{arith, rules, ◌≡◌, ℕ, ◌==◌, Bool, true, false, MatchBool, List, [], ◌∷◌, sym, ◌∙◌, subst, common_steps, descriptor_limit, mode_in, flock_mode_in, LocksHaveOneReport, Rules, State, StateLine, States, AreStateLines, IsStateText, IsChangesText, TellsState}
 use Rattle.script_core.specs.declared.states.States.TheVariants as places
 use Rattle.script_core.specs.StateText.{AreMissing, AreToldAgainst}
 

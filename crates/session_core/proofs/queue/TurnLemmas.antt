@@ -1,5 +1,5 @@
 -- What becomes of a wait in the list, while others are granted.
-use Rattle.session_core.proofs.Common.{common_steps, ℕ, suc, ◌≡◌, ◌≢◌, ◌⊎◌, inl, inr, refl, sym, ◌∙◌, ap, subst, arith, List, [], ◌∷◌, ◌++◌, ⊎_elim, Some, length, Contains, cases_eq, Contains-append_left, Contains-append_right, Wait, WaitsConflict, wait_of, without_wait_of, EINTR, Note, Answer, Waits, ProcState, Live, Request, State, Event, EndsProcess, WouldWaitAs, IsOver}
+use Rattle.session_core.proofs.Common.{common_steps, ℕ, suc, ◌≡◌, ◌≢◌, ◌⊎◌, inl, inr, refl, sym, ◌∙◌, ap, subst, arith, List, [], ◌∷◌, ◌++◌, ⊎_elim, Some, Contains, cases_eq, Contains-append_left, Contains-append_right, Wait, WaitsConflict, wait_of, without_wait_of, EINTR, Note, Answer, Waits, ProcState, Live, Request, State, Event, EndsProcess, WouldWaitAs, IsOver}
 use Rattle.std.specs.List.{AllByRecursion as Each}
 use Rattle.lock_manager.specs.declared.request.Reply.TheVariants as replies
 use Rattle.session_core.proofs.tallies.Tally.{IsLastTaken, Each-append, None-contains, Contains-here}

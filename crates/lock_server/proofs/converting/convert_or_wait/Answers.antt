@@ -5,7 +5,7 @@ use Rattle.lock_server.proofs.SafeLemmas.{moves_given, moves_unset}
 use Rattle.lock_server.proofs.ServerLemmas.{ComesToRest, changes_at_rest, safe_rested_joined, safe_rested_twice, swept}
 use Rattle.lock_server.proofs.StateLemmas.{file_from_same, state_from_same}
 use Rattle.lock_server.proofs.SweptLemmas.{HasNoLock, flock_set, swept_with_lock}
-use Rattle.lock_server.proofs.converting.convert_or_wait.Goals.{After-set_flock, After-set_flock-2, After-settle-2, After-sweep}
+use Rattle.lock_server.proofs.converting.convert_or_wait.Goals.{After-set_flock-2, After-settle-2, After-sweep}
 use Rattle.lock_server.proofs.converting.convert_or_wait.Goals as goal
 
 pub set_flock-requires : goal.set_flock-requires

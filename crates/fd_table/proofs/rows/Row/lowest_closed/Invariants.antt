@@ -1,4 +1,3 @@
-use Rattle.fd_table.proofs.Common.{◌≡◌}
 use Rattle.fd_table.specs.Rows.{AreOpenBelow}
 use Rattle.fd_table.proofs.rows.Row.lowest_closed.Given as goal
 

@@ -1,4 +1,4 @@
-use Rattle.lock_book.proofs.Common.{arith, ◌≡◌, ◌++◌, ◌∙◌, ap, map, List, common_steps, modes_of, Mode, Span}
+use Rattle.lock_book.proofs.Common.{arith, ◌++◌, ◌∙◌, ap, map, List, common_steps, modes_of, Mode, Span}
 use Rattle.std.proofs.lemmas.List.{map-append}
 use Rattle.lock_book.proofs.ListLemmas.{pushed}
 use Rattle.lock_book.proofs.RunLemmas.{run_line, lines_of_runs}

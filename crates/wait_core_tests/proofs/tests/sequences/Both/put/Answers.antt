@@ -1,4 +1,4 @@
-use Rattle.std.proofs.Common.{◌≡◌, ◌∙◌, inr, subst, List}
+use Rattle.std.proofs.Common.{◌∙◌, inr, subst, List}
 use Rattle.std.proofs.Math.Logic.{∥∥₁_map}
 use Rattle.lock_book.specs.declared.book.Book.{Book}
 use Rattle.wait_core.specs.declared.Policy.{Policy}
