@@ -61,16 +61,6 @@ module _ {X : Type 0} (p : X → Bool) (from : ℕ) (seen more : List X) where
         ]
   ]
 
--- the next item, where nothing was found before it
-pub found_next : {X : Type 0} (p : X → Bool) (from : ℕ) (seen : List X) (x : X) → NonePassesFrom p from seen → from ≤ length seen → p x ≡ true
-    → IsFirstFrom p from (seen ++ x ∷ []) (length seen) x
-found_next p from seen x none behind passes = record {
-  not_before = behind;
-  there = get_next seen x;
-  passes = passes;
-  first = λ i y after before there. none i y after (sym (get_front seen (x ∷ []) i before) ∙ there);
-}
-
 -- the item at a place, and what a test that all before fail says of it
 get_item : {T : Type 0} (P : T → Type 0) (arrived : List (Arrived T)) (i : ℕ) (x : T) → ((a : Arrived T) → slice_get arrived i ≡ Some a → P a.item)
     → slice_get (items_of arrived) i ≡ Some x → P x

@@ -12,19 +12,10 @@ abbrev pub passes : (Hello → Bool) → Option Hello → Bool
 passes test None = false
 passes test (Some hello) = test hello
 
--- a HELLO has its node's votes, and the expected ones
-pub its_votes : (cluster : Cluster) (node : ℕ) (known : View) (state : Option Copy) → (hello_of cluster node known state).votes ≡ cluster.votes node
-its_votes cluster node known None = refl
-its_votes cluster node known (Some copy) = refl
-
 pub its_expected : (cluster : Cluster) (node : ℕ) (known : View) (state : Option Copy)
     → (hello_of cluster node known state).electorate.expected ≡ cluster.expected
 its_expected cluster node known None = refl
 its_expected cluster node known (Some copy) = refl
-
-pub its_node : (cluster : Cluster) (node : ℕ) (known : View) (state : Option Copy) → (hello_of cluster node known state).node ≡ node
-its_node cluster node known None = refl
-its_node cluster node known (Some copy) = refl
 
 -- the votes of those that pass are the weight of their nodes
 

@@ -1,5 +1,5 @@
 -- Words of a line: for `form_of`, `joined` and `push_expectation`.
-use Rattle.std.proofs.Common.{◌≡◌, ◌∙◌, ℕ, ◌-◌, ◌<◌, ◌≤◌, Bor, List, [], ◌∷◌, ◌++◌, length, get_or, take, drop, flat_map, refl, sym, ap, arith}
+use Rattle.std.proofs.Common.{◌≡◌, ◌∙◌, ℕ, ◌-◌, ◌≤◌, Bor, List, [], ◌∷◌, ◌++◌, length, get_or, take, drop, flat_map, refl, sym, ap, arith}
 use Rattle.std.specs.List.{join_with_byte}
 use Rattle.std.proofs.lemmas.List.{take_rest}
 use Rattle.script_core.specs.Words.{texts}
@@ -17,11 +17,6 @@ pub joined_words : (words : List (Bor (List ℕ))) (d : Bor (List ℕ)) → 1 �
 joined_words words d some =
     sym (ap (join_with_byte 32) (first_word words d some)
     ∙ join_words (get_or words 0 d).now (texts (take (length words - 1) (drop 1 words))))
-
--- no words
-pub no_words : (words : List (Bor (List ℕ))) → length words < 1 → texts words ≡ []
-no_words [] none = refl
-no_words (word ∷ words) none = absurd (omega arith)
 
 drop_two : (words : List (Bor (List ℕ))) → texts (drop 2 words) ≡ drop 2 (texts words)
 drop_two [] = refl

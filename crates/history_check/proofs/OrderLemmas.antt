@@ -99,13 +99,6 @@ none_told states order locks none =
 pub next_of : (order : List FileHappening) (at : ℕ) (none : FileHappening) → at < length order → drop at order ≡ get_or order at none ∷ drop (at + 1) order
 next_of order at none below = drop-cons order at none below ∙ ap (λ k. get_or order at none ∷ drop k order) (sym (add-one at))
 
--- the next may happen
-pub may_be_next : (states : LockStates) (order : List FileHappening) (at : ℕ) (locks : ℕ → FileLocks) (told : List ℕ) (happening : FileHappening)
-    → drop at order ≡ happening ∷ drop (at + 1) order → TellsOrder states order at locks told → (last : ℕ → FileLocks) → Leave no_locks order last
-    → (next : ℕ → FileLocks) × MayHappen locks happening next
-may_be_next states order at locks told happening cons so_far last leave =
-    let left = subst (λ (o : List FileHappening). Leave locks o last) cons (so_far.leaves last leave) in (left.0, left.1)
-
 -- and it was told
 pub next_told : (states : LockStates) (order : List FileHappening) (at : ℕ) (locks next : ℕ → FileLocks) (told state : List ℕ) (happening : FileHappening)
     → drop at order ≡ happening ∷ drop (at + 1) order → TellsOrder states order at locks told → MayHappen locks happening next

@@ -1,5 +1,5 @@
 -- What is printed of a history: for `push_open`, `push_waits` and others.
-use Rattle.std.proofs.Common.{◌≡◌, ◌==◌, ℕ, true, false, Bool, Result, Ok, Err, OnOk, List, [], ◌∷◌, ◌++◌, refl, sym, ap, ◌∙◌, append_assoc, append-nil, flat_map, arith}
+use Rattle.std.proofs.Common.{◌≡◌, ◌==◌, ℕ, true, false, Bool, Result, Ok, Err, OnOk, List, [], ◌∷◌, ◌++◌, refl, sym, ap, ◌∙◌, append_assoc, append-nil, flat_map}
 use Rattle.std.specs.Prelude.{filter, not}
 use Rattle.std.proofs.lemmas.Grind.{flat_map-append}
 use Rattle.std.proofs.lemmas.List.Elements.{All-push, filter_passes}
@@ -12,10 +12,6 @@ is_no_end false marked = refl
 -- no line feed is left
 without_ends : (line : List ℕ) → InLine (filter (λ byte. not (byte == 10)) line)
 without_ends line = λ k d below. is_no_end _ (filter_passes (λ (byte : ℕ). not (byte == 10)) line k d below)
-
--- nothing is a comment of no line
-pub no_comment : IsComment []
-no_comment = record { lines = []; in_line = λ k d below. absurd (omega arith); are = refl }
 
 -- a line more
 pub comment_more : (comment line : List ℕ) → IsComment comment → IsComment (comment ++ comment_line (filter (λ byte. not (byte == 10)) line))

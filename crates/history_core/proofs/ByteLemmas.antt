@@ -1,6 +1,6 @@
 -- Lists of byte locks, and the modes that they give.
 use Rattle.history_core.proofs.Common.{inl, inr, ℕ, ◌≡◌, ◌≢◌, ◌+◌, ◌^◌, ◌<◌, ◌≤◌, ◌∙◌, ◌==◌, ◌↔◌, sym, ap, refl, subst, arith, true, false, Bool, Option, Some, None, List, [], ◌∷◌, ◌++◌, length, take, drop, zero, suc, get_or, common_steps, cases_Bool, eqb-true, ltb-true, ltb-false, ◌⊎◌, All, Any, filter, not, nat_lt, All-push, take_more, take_all, Mode, ByteLock, bytes_in, Gives, HasByte, AreRanges, AreTrue}
-use Rattle.std.proofs.Common.{◌-◌, ◌&&◌, min, max, drop-cons}
+use Rattle.std.proofs.Common.{◌-◌, ◌&&◌, min, max}
 use Rattle.std.proofs.lemmas.Bool.{eqb-false}
 use Rattle.std.specs.Prelude.{nat_le, insert}
 use Rattle.std.proofs.lemmas.List.Elements.{All-append, All-take, All-drop, All-filter}
@@ -273,31 +273,6 @@ with_gives locks rest runs owner span new are outside inside other byte mode =
       λ e. within.1 (elim (some.0 e) [ inl old ↦ inl (out.1 (all.1 old.0, old.1)) | inr now ↦ inr now ]),
     )
 
--- what lies before and behind a range is what lies outside of it
-pub outside_parts : (lock : ByteLock) (owner : ℕ) (span : Span) (other byte : ℕ) (mode : Mode) → lock.owner ≡ owner → IsRange span
-    → ((Gives lock other byte mode × (byte < span.first)) ⊎ (Gives lock other byte mode × (span.last < byte)))
-    ↔ (Gives lock other byte mode × ¬ ((other ≡ owner) × Covers span byte))
-outside_parts lock owner span other byte mode same range = (
-  (λ h. elim h [
-    | inl before ↦ (before.0, λ on. omega (arith, before.1, on.1.0))
-    | inr behind ↦ (behind.0, λ on. omega (arith, behind.1, on.1.1))
-  ]),
-  (λ h.
-      let is : other ≡ owner = sym h.0.is_owner ∙ same in
-      elim (cases_Bool (nat_lt byte span.first)) [
-        | inl holds ↦ inl (h.0, ltb-true _ _ holds)
-        | inr early ↦ elim (cases_Bool (nat_lt span.last byte)) [
-          | inl holds ↦ inr (h.0, ltb-true _ _ holds)
-          | inr late ↦ absurd (h.1 (is, (ltb-false _ _ early, ltb-false _ _ late)))
-        ]
-      ]),
-)
-
--- a lock of another owner lies outside
-pub outside_other : (lock : ByteLock) (owner : ℕ) (span : Span) (other byte : ℕ) (mode : Mode) → lock.owner ≢ owner
-    → Gives lock other byte mode → Gives lock other byte mode × ¬ ((other ≡ owner) × Covers span byte)
-outside_other lock owner span other byte mode ne gives = (gives, λ on. ne (gives.is_owner ∙ on.0))
-
 -- a lock grown by one beside it
 pub grown_gives : (lock one : ByteLock) (span : Span) (owner byte : ℕ) (mode : Mode) → Touches one lock → IsRange one.span
     → span.first ≤ lock.span.first → lock.span.last ≤ span.last → IsRange lock.span
@@ -475,23 +450,6 @@ pub inside_none : (rest : List ByteLock) (owner : ℕ) (span : Span) (new : Opti
     ↔ (HasByte rest other byte given ⊎ ((new ≡ Some given) × (other ≡ owner) × Covers span byte))
 inside_none rest owner span new is other byte given =
     (λ h. inl h, λ h. elim h [ inl there ↦ there | inr here ↦ absurd (grind (arith, common_steps, is, here.0)) ])
-
--- a search goes on behind a lock that doesn't give a mode
-pub bytes_in-drop : (locks : List ByteLock) (k owner byte : ℕ) (d : ByteLock) → k < length locks
-    → (((get_or locks k d).owner == owner) && covers (get_or locks k d).span byte) ≡ false
-    → bytes_in (drop (k + 1) locks) owner byte ≡ bytes_in (drop k locks) owner byte
-bytes_in-drop locks k owner byte d lt fails =
-    let next : suc k ≡ k + 1 = omega arith in
-    let behind : drop (suc k) locks ≡ drop (k + 1) locks = ap (λ n. drop n locks) next in
-    let passed : bytes_in (get_or locks k d ∷ drop (suc k) locks) owner byte ≡ bytes_in (drop (suc k) locks) owner byte = rw fails refl in
-    sym (ap (λ xs. bytes_in xs owner byte) (drop-cons locks k d lt) ∙ passed ∙ ap (λ xs. bytes_in xs owner byte) behind)
-
--- and ends at one that does
-pub bytes_in-here : (locks : List ByteLock) (k owner byte : ℕ) (d : ByteLock) → k < length locks
-    → (((get_or locks k d).owner == owner) && covers (get_or locks k d).span byte) ≡ true
-    → bytes_in (drop k locks) owner byte ≡ Some (get_or locks k d).mode
-bytes_in-here locks k owner byte d lt holds =
-    ap (λ xs. bytes_in xs owner byte) (drop-cons locks k d lt) ∙ (rw holds refl)
 
 -- a lock is told rightly just where these hold
 pub held_parts : (runs : Bool) (bytes : ℕ → Modes) (asked told : ByteLock)

@@ -1,5 +1,5 @@
 -- What is known of all files of a history, one by one.
-use Rattle.history_judge.proofs.Common.{inl, inr, ℕ, ◌≡◌, ◌≢◌, ◌∙◌, ◌+◌, ◌-◌, ◌<◌, ◌==◌, sym, ap, refl, subst, arith, true, false, Bool, Option, Some, None, List, [], ◌∷◌, ◌++◌, eq-eqb, common_steps, false≢true, BTreeMap, UpdatesBy, get, is_at, lookup, list_any, nat_cmp, deref_pair, All, option_map, if◌then◌else◌, FileHistory, Answer, Request, FileLine, beginning, keeps_order, Files, file_in, keeps_in, Happening, FileOrder, left_in}
+use Rattle.history_judge.proofs.Common.{inl, inr, ℕ, ◌≡◌, ◌≢◌, ◌∙◌, ◌+◌, ◌-◌, ◌<◌, ◌==◌, sym, ap, refl, subst, arith, true, false, Bool, Option, Some, None, List, [], ◌∷◌, ◌++◌, eq-eqb, common_steps, false≢true, BTreeMap, UpdatesBy, get, is_at, lookup, list_any, nat_cmp, deref_pair, All, option_map, if◌then◌else◌, FileHistory, Answer, Request, FileLine, beginning, keeps_order, Files, file_in, keeps_in, FileOrder}
 use Rattle.std.proofs.Common.{◌≤◌, ◌↔◌, get_or}
 use Rattle.std.proofs.lemmas.Cmp.{nat_cmp_total}
 use Rattle.std.proofs.lemmas.Map.Entries.{All-lookup, sum_by-insert_entry, sum_by-remove_entry, sum_by-set_value}
@@ -21,7 +21,7 @@ use Rattle.history_judge.specs.Kept.{kept_by}
 use Rattle.history_judge.specs.FilesView.{TellsEnd, Exceeds, KeepsOn, Knows, KnowsFile, Refuses, Stays, Takes, kept_beside, kept_in, runs_of, with_line}
 use Rattle.std.proofs.Common.{suc}
 use Rattle.history_core.specs.Orders as one_file_orders
-use Rattle.history_judge.specs.FileOrders.{AreOf, IsOrderOf, PutsOrder}
+use Rattle.history_judge.specs.FileOrders.{AreOf, PutsOrder}
 use Rattle.history_judge.proofs.NameLemmas.{decide, neq-eqb}
 
 -- the file has one line more
@@ -234,10 +234,6 @@ counted_inserted old new file count history ordered none inserts is =
 pub counted_same : (old : Files) (new : BTreeMap ℕ FileHistory) → new.entries ≡ old.files.entries → old.kept ≡ kept_by new
 counted_same old new same = old.counted ∙ ap (λ es. sum_by count_in (values_of es)) (sym same)
 
--- what is kept of others is no more than all
-pub beside_le : (files : Files) (file limit : ℕ) → kept_in files ≤ limit → kept_beside files file ≤ limit
-beside_le files file limit le = omega (arith, le)
-
 -- the limit isn't passed
 pub not_over : (files : Files) (limit : ℕ) (over : Bool) → IsTrue over ↔ (limit < kept_in files) → over ≡ false → kept_in files ≤ limit
 not_over files limit over tells not = omega (arith, within)
@@ -339,30 +335,6 @@ pub entry_in_loop : (files : Files) (xs : List (Bor ℕ × Bor FileHistory)) (s 
     (x : Bor ℕ × Bor FileHistory) → s ≡ files.files.entries → Yields (TakesFirst deref_pair) s xs t → r ≡ Some x → TakesFirst deref_pair t r u
     → IsOrdered nat_cmp files.files → file_in files x.0.now ≡ Some x.1.now
 entry_in_loop files xs s t u r x start y is step ordered = (btree_map_turn deref_pair xs s t u r x y is step nat_cmp_total files.files start ordered).1
-
--- the order of a file, where one is kept
-pub order_put : (history : FileHistory) (order : List Happening) (put : FileOrder) → left_in put ≡ record { told = order; lines = 0 }
-    → ((runs : Bool) (lines : List FileLine) → one_file.Knows runs history lines → one_file_orders.IsOrder runs lines order) → IsOrderOf history put
-order_put history order put is told = record {
-  none_came = ap (λ l. l.lines) is;
-  is_order = λ runs lines knows. subst (λ t. one_file_orders.IsOrder runs lines t) (sym (ap (λ l. l.told) is)) (told runs lines knows);
-}
-
--- it was put in
-pub puts_order : (old new : BTreeMap ℕ FileOrder) (file : ℕ) (history : FileHistory) (order : FileOrder) → UpdatesBy nat_cmp (nat_cmp file) old new (Some order)
-    → IsOrderOf history order → PutsOrder old new file history
-puts_order old new file history order updates is = record {
-  puts = λ keeps none. absurd (some_none (sym updates.1 ∙ none));
-  stays = λ was none. absurd (some_none (sym updates.1 ∙ none));
-  only = λ other here. inr (subst (λ o. IsOrderOf history o) (same other (sym updates.1 ∙ here)) is);
-  others = λ other differs. updates.2 other (is_at-other file other differs);
-}
-  where
-    some_none : Some order ≡ None → ⊥
-    some_none e = absurd (grind (arith, common_steps, e))
-
-    same : (other : FileOrder) → Some order ≡ Some other → order ≡ other
-    same other e = cc
 
 -- none was
 pub puts_none : (old : BTreeMap ℕ FileOrder) (file : ℕ) (history : FileHistory) → keeps_order history ≡ false → PutsOrder old old file history

@@ -11,12 +11,12 @@ use Rattle.lock_server.specs.declared.WaitAnswer.{WaitAnswer}
 use Rattle.lock_server.specs.Files.{locks_on}
 use Rattle.lock_server.specs.Pendings.{as_wait, tickets_of}
 use Rattle.lock_server.specs.Settling.{IsBlockedUnless, IsHeldBack, IsWaitBlocked}
-use Rattle.lock_server.specs.States.{IsTaken, SameState, SettlesFile}
+use Rattle.lock_server.specs.States.{IsTaken, SettlesFile}
 use Rattle.lock_server.specs.Calls.{Gives, Suspends, TestAtOnceComesTo, TestComesTo, WaitAtOnceComesTo}
 use Rattle.history_of_server.specs.ServerLines.{answered_at_once, named, named_behind, told_answer}
 use Rattle.history_of_server.proofs.ListLemmas.{Apart, Each, apart_push, apart_renamed, each_append, each_both, each_not, each_other, each_weaker}
 use Rattle.history_of_server.proofs.PartLemmas.{path_append, path_none}
-use Rattle.history_of_server.proofs.BlockLemmas.{Holds, IsSound, action_of, block_of_conflict, blocked_lacks, conflict_of_block, conflict_of_flock, flock_of_conflict, holds_got, may_get, sound_got, sound_same}
+use Rattle.history_of_server.proofs.BlockLemmas.{Holds, IsSound, action_of, block_of_conflict, blocked_lacks, conflict_of_block, conflict_of_flock, flock_of_conflict, holds_got, may_get, sound_got}
 use Rattle.history_of_server.proofs.TrackLemmas.{IsDone, IsWaiting, Tracks, name_of, no_death, settles_each, tracks_same, waiting}
 use Rattle.history_of_server.proofs.FollowLemmas.{Busy, ChangesLocks, Follows, Next, busy_effect, ended_busy, follows_same, more, next_append, settled_next, each_mapped}
 
@@ -49,14 +49,6 @@ passed F G locks wanted Whole holds sets = holds_got F G locks wanted.owner want
 no_test_death : (family : Family) (wanted : Pending) → is_death (test_of family wanted.span wanted.mode) ≡ false
 no_test_death Bytes wanted = refl
 no_test_death Whole wanted = refl
-
-pub no_change : (S T : State) (names : Names) (worlds : ℕ → World) (file : ℕ) → Follows S names worlds → SameState S T → ChangesLocks S file T
-no_change S T names worlds file follows same = record {
-  sound = sound_same (S.files file) (T.files file) (same.files file) (follows.files file).sound;
-  waits = (same.files file).waits;
-  others = λ other differs. same.files other;
-  grants = same.grants;
-}
 
 -- a request that is open is done, and the file is settled
 pub busy_done : (runs : Bool) (policy : Policy) (S between T : State) (names : Names) (worlds : ℕ → World) (file owner : ℕ) (action : Action)

@@ -1,21 +1,11 @@
 -- What is told of a history that was judged: for `judge_history` and `write_told`.
-use Rattle.std.proofs.Common.{◌≡◌, ℕ, List, [], OnOk, Option, Result, Ok, Err, refl, sym, subst}
+use Rattle.std.proofs.Common.{◌≡◌, ℕ, List, OnOk, Option, Result, Ok, Err, sym, subst}
 use Rattle.history_check.specs.declared.check.HistoryCheck.{HistoryCheck}
 use Rattle.history_check.specs.declared.judging.HistoryOutcome.{HistoryOutcome}
 use Rattle.history_check.specs.declared.judging.Judging.{Judging}
 use Rattle.history_check.specs.Checked.{verdict_in}
 use Rattle.history_check.specs.Told.{IsTold, outcome_of}
-use Rattle.history_check.specs.Verdicts.{Faulty, Illegal, IsSound, Legal, LostWakeUps, Ordered, Verdict}
-use Rattle.history_run.specs.HistoryRuns.{IsPrinted, IsRead, Tells, TellsSome}
-
--- nothing is printed of a history for which nothing is
-pub told_nothing : (judging : Judging) (verdict : Verdict) (outcome : HistoryOutcome) → IsSound judging verdict → outcome ≡ outcome_of verdict
-    → (IsPrinted judging outcome → ⊥) → IsTold judging.states verdict []
-told_nothing judging Legal outcome sound is quiet = refl
-told_nothing judging (Ordered told) outcome sound is quiet = absurd (quiet (subst (IsPrinted judging) (sym is) sound.0))
-told_nothing judging (Faulty fault) outcome sound is quiet = refl
-told_nothing judging (Illegal number answer) outcome sound is quiet = absurd (quiet (subst (IsPrinted judging) (sym is) tt))
-told_nothing judging (LostWakeUps waits) outcome sound is quiet = absurd (quiet (subst (IsPrinted judging) (sym is) tt))
+use Rattle.history_run.specs.HistoryRuns.{IsRead, Tells, TellsSome}
 
 -- what was read has this outcome, and so much was written
 pub tells : (judging : Judging) (old new : Option (List ℕ)) (check : HistoryCheck) (outcome : HistoryOutcome) (Written : List ℕ → Type 0)

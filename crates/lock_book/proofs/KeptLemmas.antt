@@ -1,5 +1,5 @@
 -- What keeps each owner's list in use, and its runs indexed: for `Book::set`, `Book::clear_owner`, `Book::reserve` and others.
-use Rattle.lock_book.proofs.Common.{Bool, ℕ, ◌⊎◌, inl, inr, ◌≡◌, ◌≢◌, ◌∙◌, sym, ap, refl, subst, cond, true, false, Option, Some, None, List, Result, Ok, Err, arith, is_some, Bor, option_copied, lookup, cases_Bool, cond-false, nat_tests, Mode, Span, OwnerRuns, Covers, is_covered, modes_of, Run, Owner, Book, is_same_owner, list_of, modes_in_list, IsIdle, PutsFor, ByteModes, as_holder, is_outside, modes_among}
+use Rattle.lock_book.proofs.Common.{Bool, ℕ, ◌⊎◌, inl, inr, ◌≡◌, ◌≢◌, ◌∙◌, sym, ap, subst, cond, true, false, Option, Some, None, List, Result, Ok, Err, arith, Bor, option_copied, lookup, cases_Bool, cond-false, nat_tests, Mode, Span, OwnerRuns, Covers, is_covered, modes_of, Run, Owner, Book, is_same_owner, list_of, modes_in_list, IsIdle, PutsFor, ByteModes, as_holder, is_outside, modes_among}
 use Rattle.std.specs.Prelude.{OnOk, OnErr}
 use Rattle.std.proofs.lemmas.Bool.{false_from_ne_true}
 use Rattle.range_core.specs.Changes.{SetsMode}
@@ -175,11 +175,3 @@ found_added old owners owner list found lent puts value is =
     let e : Some list ≡ Some lent.now =
     sym (value ∙ puts owner ∙ ap (λ b. cond b (Some list) (list_of old owner)) (is_same_owner-self owner))
     ∙ ap option_copied is in cc
-
--- by any look-up
-pub is_added : (old : Book) (owners : List (Owner × OwnerRuns)) (owner : Owner) (list : OwnerRuns) (found : Option (Bor OwnerRuns))
-    → PutsAt old owners owner (Some list) → option_copied found ≡ lookup (is_same_owner owner) owners → is_some found ≡ true
-is_added old owners owner list None puts value =
-    let e : None ≡ Some list =
-    value ∙ puts owner ∙ ap (λ b. cond b (Some list) (list_of old owner)) (is_same_owner-self owner) in cc
-is_added old owners owner list (Some lent) puts value = refl

@@ -1,6 +1,6 @@
 -- Who was blocked stays so where a lock only adds to what its owner has: for `LockFile::leaves_blocked` and `LockFile::grant`.
 use Rattle.lock_server.proofs.Common.{arith, ℕ, ◌≡◌, ◌≢◌, inl, inr, ap, sym, subst, refl, ◌∙◌, Bool, true, false, Option, Some, None, List, [], ◌∷◌, ◌++◌, All, take, common_steps, ◌&&◌, if◌then◌else◌, slice_get, eqb-true, All-head, All-tail}
-use Rattle.lock_server.proofs.Common.{Mode, Read, Write, HeldConflicts, is_covered, Owner, Process, Description, Family, Bytes, Whole, Policy, Held, Queue, IsBlockedIn, Pending, HasByteLock, HasFlockLock, FileState, SetsLock, GetsLock, by_owner, locks_on, as_wait, AllBlocked, HasIn, IsWaitBlocked, IsReadyAt, LeavesAt}
+use Rattle.lock_server.proofs.Common.{Mode, Read, Write, HeldConflicts, is_covered, Owner, Process, Description, Family, Bytes, Whole, Policy, Held, Queue, IsBlockedIn, Pending, FileState, SetsLock, GetsLock, by_owner, locks_on, as_wait, AllBlocked, HasIn, IsWaitBlocked, IsReadyAt, LeavesAt}
 use Rattle.std.specs.Prelude.{◌==◌}
 use Rattle.std.proofs.Math.Seq.{take-append_seam}
 use Rattle.lock_server.specs.Adding.{IsAtMost, AddsIn, LeavesBlocked, OnlyAdds}
@@ -94,35 +94,6 @@ module _ (F G : FileState) (wait : Pending) where
     one_still policy gets adds earlier one (λ queue. All-head (λ o. o.owner ≢ wait.owner) one waits (differ queue)) all.0,
     all_still policy gets adds (earlier ++ one ∷ []) waits (λ queue. All-tail (λ o. o.owner ≢ wait.owner) one waits (differ queue)) all.1,
   )
-
--- a write lock is no less than anything, and anything no less than nothing
-at_most_write : (held : Option Mode) → IsAtMost held Write
-at_most_write None = tt
-at_most_write (Some Read) = tt
-at_most_write (Some Write) = tt
-
-at_most_none : (held : Option Mode) (wanted : Mode) → ((mode : Mode) → ¬ (held ≡ Some mode)) → IsAtMost held wanted
-at_most_none None wanted none = tt
-at_most_none (Some mode) wanted none = absurd (none mode refl)
-
-write_adds_in : (family : Family) (F : FileState) (wait : Pending) (mode : Mode) → mode ≡ Write → wait.mode ≡ mode → AddsIn family F wait
-write_adds_in Bytes F wait mode write is = λ byte covered. subst (λ (wanted : Mode). IsAtMost (F.bytes wait.owner byte) wanted) (sym write ∙ sym is) (at_most_write (F.bytes wait.owner byte))
-write_adds_in Whole F wait mode write is = subst (λ (wanted : Mode). IsAtMost (F.flocks wait.owner) wanted) (sym write ∙ sym is) (at_most_write (F.flocks wait.owner))
-
--- a write lock takes nothing from what its owner has
-pub write_adds : (F : FileState) (wait : Pending) → wait.mode ≡ Write → OnlyAdds F wait
-write_adds F wait write = write_adds_in wait.family F wait wait.mode write refl
-
--- nor does a lock of one who has none
-pub adds_to_no_bytes : (F : FileState) (wait : Pending) → wait.family ≡ Bytes → ¬ HasByteLock F wait.owner → OnlyAdds F wait
-adds_to_no_bytes F wait bytes none =
-    subst (λ (family : Family). AddsIn family F wait) (sym bytes)
-    (λ byte covered. at_most_none (F.bytes wait.owner byte) wait.mode (λ mode is. none (record { byte = byte; mode = mode; is = is })))
-
-pub adds_to_no_flock : (F : FileState) (wait : Pending) → wait.family ≡ Whole → ¬ HasFlockLock F wait.owner → OnlyAdds F wait
-adds_to_no_flock F wait whole none =
-    subst (λ (family : Family). AddsIn family F wait) (sym whole)
-    (at_most_none (F.flocks wait.owner) wait.mode (λ mode is. none (record { mode = mode; is = is })))
 
 -- the waits before the one at the place stay blocked
 pub leaves_blocked : (policy : Policy) (F : FileState) (place : ℕ) (wait : Pending) → slice_get F.waits place ≡ Some wait → OnlyAdds F wait

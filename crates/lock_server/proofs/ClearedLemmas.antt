@@ -34,17 +34,6 @@ both_beyond : (first last next more owner : ℕ) → next ≤ owner → more + 1
 both_beyond first last next more owner one other =
     ap (λ (t : Bool). is_within first last owner && t) (beyond owner next one ∙ sym (beyond owner (more + 1) other))
 
--- at first all have what they had
-pub cleared_none : {X : Type 0} (first last next : ℕ) (was : ℕ → Option X) → next ≡ first → IsCleared first last next was was
-cleared_none first last next was is =
-    record { at = λ owner. sym (ap (λ (t : Bool). if t then None else was owner) (none_passed owner)) }
-  where
-    none_passed : (owner : ℕ) → is_passed first last next owner ≡ false
-    none_passed owner = elim (cases_lt owner first) [
-      | inl before ↦ ap (λ (t : Bool). (t && nat_le owner last) && nat_lt owner next) (above first owner before)
-      | inr from ↦ ap (λ (t : Bool). is_within first last owner && t) (beyond owner next (omega (arith, is))) ∙ and_false (is_within first last owner)
-    ]
-
 -- one owner more, where none is between
 pub cleared_more : {X : Type 0} (first last next owner : ℕ) (was now new : ℕ → Option X) → IsCleared first last next was now
     → first ≤ next → next ≤ owner → ((other : ℕ) → next ≤ other → other < owner → now other ≡ None)

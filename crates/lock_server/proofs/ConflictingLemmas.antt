@@ -119,7 +119,3 @@ pub detected_told : (waits : List Pending) (owner from : ℕ) (found : Option �
     → IfSome found (IsNextDetected waits owner from) × IfNone found (IsNoneDetected waits owner from)
 detected_told waits owner from None none = (tt, none_detected waits owner from none)
 detected_told waits owner from (Some place) first = (next_detected waits owner from place first, tt)
-
--- of no waits none is detected
-pub nobody_detected : (owner from : ℕ) → IsNoneDetected [] owner from
-nobody_detected owner from place late there = absurd (let h : None ≡ Some there.0 = there.1 in cc)

@@ -38,15 +38,6 @@ module _ (modes : Modes) (span : Span) (wanted : Mode) (first : ℕ) (held : Mod
     before = so_far.before;
   }
 
--- and so is a byte without any
-pub lacks_byte : (modes : Modes) (span : Span) (wanted : Mode) (first : ℕ) → HasBelow modes span wanted first → modes first ≡ None
-    → IsFirstLacking modes span wanted first
-lacks_byte modes span wanted first so_far none = record {
-  covered = (so_far.from, so_far.to);
-  lacks = λ least. subst (λ (mode : Option Mode). IsAtLeast mode wanted) none least;
-  before = so_far.before;
-}
-
 -- where no byte lacks the mode, there is at least the mode on each
 pub none_lacking : (modes : Modes) (span : Span) (wanted : Mode) (found : Option ℕ) (answer : Bool) → is_some found ≡ not answer
     → IfSome found (IsFirstLacking modes span wanted) → IfNone found ((byte : ℕ) → Covers span byte → IsAtLeast (modes byte) wanted)

@@ -262,22 +262,6 @@ kept_opening holdings through S same none = record {
   gone = λ owner file unkept. record { nothing = untouched_nothing (S.files file) (same.files file) owner; unseen = none file owner };
 }
 
--- an owner that is kept with the file is noted
-pub kept_noted : (holdings : Holdings) (S : State) (was now : ℕ → ℕ → Option ℕ) (file owner : ℕ) (open_file : Option ℕ) → keeps holdings owner file ≡ true
-    → SeesOn was now file owner open_file → AreKept holdings S was → AreKept holdings S now
-kept_noted holdings S was now file owner open_file entered sees kept = record {
-  gone = λ other any unkept. (let before = kept.gone other any unkept in record {
-    nothing = before.nothing;
-    unseen = elim (cases_eq any file) [
-      | inl same_file ↦ elim (cases_eq other owner) [
-        | inl same_owner ↦ absurd (let no : true ≡ false = sym entered ∙ ap (λ (o : ℕ). keeps holdings o file) (sym same_owner) ∙ ap (λ (f : ℕ). keeps holdings other f) (sym same_file) ∙ unkept in cc)
-        | inr differs ↦ ap (λ (f : ℕ). now f other) same_file ∙ sees.others other differs ∙ ap (λ (f : ℕ). was f other) (sym same_file) ∙ before.unseen
-      ]
-      | inr differs ↦ sees.elsewhere any other differs ∙ before.unseen
-    ];
-  });
-}
-
 -- and one that isn't noted any more
 pub unseen_on : (was now : ℕ → ℕ → Option ℕ) (file owner : ℕ) → SeesOn was now file owner None → (any other : ℕ) → was any other ≡ None → now any other ≡ None
 unseen_on was now file owner sees any other before = elim (cases_eq any file) [

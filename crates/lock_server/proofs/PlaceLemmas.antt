@@ -3,12 +3,6 @@
 use Rattle.lock_server.proofs.Common.{ℕ, ◌≡◌, ◌∙◌, ◌⊎◌, inl, inr, refl, sym, subst, arith, Option, Some, None, List, [], ◌∷◌, length, cases_lt, OwnerWait, EndsBefore, IsEarlier, IsFirstFrom, IsNextFrom, wait_place}
 use Rattle.lock_server.specs.Listing.{IsEarlierOf}
 
--- no place comes before itself
-pub IsEarlier-irreflexive : (place : List ℕ) → ¬ IsEarlier place place
-IsEarlier-irreflexive [] earlier = earlier
-IsEarlier-irreflexive (n ∷ ns) (inl less) = omega (arith, less)
-IsEarlier-irreflexive (n ∷ ns) (inr (same, later)) = IsEarlier-irreflexive ns later
-
 pub IsEarlier-transitive : (one two three : List ℕ) → IsEarlier one two → IsEarlier two three → IsEarlier one three
 IsEarlier-transitive [] two three first second = absurd first
 IsEarlier-transitive (n ∷ ns) [] three first second = absurd first

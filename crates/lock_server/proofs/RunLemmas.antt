@@ -129,6 +129,3 @@ if_none (Some x) Says says = tt
 pub first_run_as : (one other : Modes) → ((byte : ℕ) → one byte ≡ other byte) → (byte : ℕ) (run : Mode × Span) → IsFirstRunFrom one byte run
     → IsFirstRunFrom other byte run
 first_run_as one other same byte run first = subst (λ (m : Modes). IsFirstRunFrom m byte run) (λ i b. same b i) first
-
-pub begin_before_as : (one other : Modes) → ((byte : ℕ) → one byte ≡ other byte) → (byte : ℕ) → BeginBefore one byte → BeginBefore other byte
-begin_before_as one other same byte before = subst (λ (m : Modes). BeginBefore m byte) (λ i b. same b i) before

@@ -1,8 +1,7 @@
 -- Where a flag stands among the words of a command line: for `given_words`.
-use Rattle.std.proofs.Common.{◌≡◌, ℕ, ◌+◌, ◌<◌, ◌≤◌, ap₂, ◌∙◌, sym, ap, refl, List, [], ◌∷◌, ◌++◌, append_assoc, arith, get_or, map, take, drop, length, true, false, codes, slice_index_or}
+use Rattle.std.proofs.Common.{◌≡◌, ℕ, ◌+◌, ◌<◌, ap₂, ◌∙◌, sym, ap, refl, List, [], ◌∷◌, ◌++◌, append_assoc, arith, get_or, map, take, drop, length, true, false, codes, slice_index_or}
 use Rattle.std.specs.Str.{bytes_eq}
-use Rattle.std.proofs.lemmas.List.{append-nil, drop-map, drop_more, get_or-map, length-map, map-append, take-append-drop, take_all, take-map, take_more}
-use Rattle.std.proofs.Math.ListN.{drop_of_length-le}
+use Rattle.std.proofs.lemmas.List.{drop-map, drop_more, get_or-map, length-map, map-append, take-append-drop, take-map, take_more}
 use Rattle.clap.specs.Words.{Text}
 use Rattle.lockreplay.specs.GivenWords.{IsPlaceOf, asks_for, has_word, without_flag, without_word}
 
@@ -23,18 +22,6 @@ word_at f xs i x before at =
 -- what is kept while the words behind the program's name are looked through: nothing that was passed over is the flag or `--`
 abbrev pub ArePassed : Text → List Text → ℕ → Type 0
 ArePassed flag words i = (asks_for flag words ≡ has_word flag (drop i words)) × (without_flag flag words ≡ take i words ++ without_word flag (drop i words))
-
-pub name_passed : (flag : Text) (words : List Text) → ArePassed flag words 1
-name_passed flag [] = (refl, refl)
-name_passed flag (name ∷ words) = (refl, refl)
-
--- at the end nothing is left
-pub all_passed : (flag : Text) (words : List Text) (i : ℕ) → length words ≤ i → ArePassed flag words i
-    → (asks_for flag words ≡ false) × (without_flag flag words ≡ words)
-all_passed flag words i beyond passed = (
-  passed.0 ∙ ap (has_word flag) (drop_of_length-le words beyond),
-  passed.1 ∙ ap₂ (λ front rest. front ++ without_word flag rest) (take_all i words beyond) (drop_of_length-le words beyond) ∙ append-nil words,
-)
 
 -- a word before which nothing is left to look at
 has_no_more : (flag word : Text) (rest : List Text) → bytes_eq word (codes "--") ≡ true → has_word flag (word ∷ rest) ≡ false

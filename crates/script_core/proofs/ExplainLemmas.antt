@@ -1,5 +1,5 @@
 -- The run that is made again, step by step: for `write_explained`, clause `ok`.
-use Rattle.script_core.proofs.Common.{common_steps, rules, ℕ, suc, ◌≡◌, ◌+◌, ◌-◌, ◌<◌, ◌≤◌, Option, Bool, List, [], ◌∷◌, ◌++◌, length, All, inl, inr, take, drop, get_or, refl, sym, ap, subst, ◌∙◌, arith, append_assoc, append-nil, add-one, Result, true, MatchResult, if◌then◌else◌, codes, drop-cons, take-append_seam, take_all, length-take, cases_Bool}
+use Rattle.script_core.proofs.Common.{common_steps, rules, ℕ, suc, ◌≡◌, ◌+◌, ◌<◌, ◌≤◌, Option, Bool, List, [], ◌∷◌, ◌++◌, length, All, inl, inr, take, drop, get_or, refl, sym, ap, subst, ◌∙◌, arith, append_assoc, append-nil, add-one, Result, true, MatchResult, if◌then◌else◌, codes, drop-cons, take-append_seam, take_all, length-take, cases_Bool}
 use Rattle.script_core.proofs.Common.{FILES, descriptor_limit, Held, mode_in, flock_mode_in, IsHeldReport, Policy, Wait, IsTraditional, Rules, Lock, LkCmd, FlockOp, Note, InTheWay, Request, OpenFile, Dup, DupTo, CloseFd, Seek, Resize, Lk, Flock, Fork, Exit, Signal, Kill, Enter, Leave, Bail, Manager, Visit, State, Visits, opening_state, locks_held, is_together, IsSettled, Step, AsksFor, StepHasOneOutcome, StandsFor, processes_of, Event, IsStep, Leads, entry_line, Extends, Link, States, StateLine, TellsState, IsWithinFiles, TellsCycleIfAny, closed_by, lost, is_deadlock, obstacle_line, deadlock_line, loss_lines, Explains, ExplainsRun, together_line, together_lines}
 use Rattle.std.proofs.Common.{IfOk, OnErr, OnOk}
 use Rattle.std.proofs.lemmas.List.{take_more}
@@ -156,19 +156,12 @@ explains_step one rules old next event notes obstacle links t0 t1 t2 t3 t4 t5 t6
         ∙ append_assoc a b (c ++ (d ++ (e ++ f)))
         ∙ ap (λ (l : List ℕ). a ++ l) (sym (append_assoc ((b ++ c) ++ d) e f ∙ append_assoc (b ++ c) d (e ++ f) ∙ append_assoc b c (d ++ (e ++ f))))
 
--- what follows where a piece was appended, and where it was refused
-pub if_pushed : {A E : Type 0} (r : Result A E) (P Q X : Type 0) → MatchResult r (λ unit. P) (λ error. Q) → (P → X) → OnOk r X
-if_pushed r P Q X h gives = grind (arith, common_steps)
-
 -- the same where it is told of each state that there may be
 pub if_done : {A E : Type 0} (r : Result A E) (P X : Type 0) → OnOk r P → (P → X) → OnOk r X
 if_done r P X h gives = grind (arith, common_steps)
 
 pub if_failed : {A E : Type 0} (r : Result A E) (X : Type 0) → X → OnErr r X
 if_failed r X h = grind (arith, common_steps)
-
-pub if_refused : {A E : Type 0} (r : Result A E) (P Q X : Type 0) → MatchResult r (λ unit. P) (λ error. Q) → (Q → X) → OnErr r X
-if_refused r P Q X h gives = grind (arith, common_steps)
 
 -- what is told behind the beginning of a line
 pub begun : {A E : Type 0} (r : Result A E) (old front new told : List ℕ)

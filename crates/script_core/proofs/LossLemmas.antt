@@ -1,6 +1,6 @@
 -- Which locks go with an event: for `write_explained`, clause `ok`.
-use Rattle.script_core.proofs.Common.{cases_lt, ℕ, zero, suc, ◌≡◌, ◌+◌, ◌<◌, ◌&&◌, ◌||◌, Bool, true, false, inl, inr, Option, Some, None, Result, Ok, Err, List, [], ◌∷◌, ◌++◌, map, MatchBool, refl, sym, ap, subst, ◌∙◌, arith, add-one, append-nil}
-use Rattle.script_core.proofs.Common.{Mode, Span, Modes, AreRuns, Look, Held, Owner, Process, Description, mode_in, flock_mode_in, State, Manager, StandsFor, Closing, is_such, any_open, is_alive, keeps, stays_open, byte_line, flock_line}
+use Rattle.script_core.proofs.Common.{cases_lt, ℕ, zero, suc, ◌≡◌, ◌+◌, ◌<◌, ◌&&◌, ◌||◌, Bool, true, false, inl, inr, Option, Some, None, Result, Ok, Err, List, [], ◌++◌, map, MatchBool, refl, sym, ap, subst, ◌∙◌, arith, add-one, append-nil}
+use Rattle.script_core.proofs.Common.{Mode, Span, Modes, AreRuns, Look, Held, Owner, Process, Description, mode_in, flock_mode_in, State, Manager, StandsFor, Closing, is_such, any_open, is_alive, keeps, stays_open, byte_line}
 use Rattle.std.proofs.Common.{IfOk}
 use Rattle.owner_runs.specs.declared.owner_runs.OwnerRuns.{OwnerRuns}
 use Rattle.owner_runs.specs.Lists.{modes_of}
@@ -78,11 +78,6 @@ bytes_unlisted S file owner same = (
 -- a description without locks
 pub no_locks : (S : State) (file d : ℕ) → AreByteLocksOf S file (Description d) [] → flock_mode_in S.flock_changes file d ≡ None → AreLocksOf S file d []
 no_locks S file d bytes none = ([], bytes, rw none refl)
-
--- a description with a flock lock, behind its byte locks, or without one
-pub flock_too : (S : State) (file d : ℕ) (bytes locks : List Held) (mode : Mode) → AreByteLocksOf S file (Description d) bytes
-    → flock_mode_in S.flock_changes file d ≡ Some mode → locks ≡ bytes ++ flock_line file d mode ∷ [] → AreLocksOf S file d locks
-flock_too S file d bytes locks mode are some is = (bytes, are, rw some is)
 
 pub bytes_alone : (S : State) (file d : ℕ) (bytes : List Held) → AreByteLocksOf S file (Description d) bytes → flock_mode_in S.flock_changes file d ≡ None
     → AreLocksOf S file d bytes

@@ -1,13 +1,13 @@
 -- The lines of a state, one after another: for `write_explained`, clause `ok`; and what words ask for no state: for `States::of_word`.
 use Rattle.script_core.proofs.Common.{common_steps, ℕ, zero, suc, ◌≡◌, ◌≢◌, ◌<◌, ◌+◌, Some, None, get_or, slice_get, length, drop, take, subst, ⊎_elim, List, [], ◌∷◌, ◌++◌, inl, inr, refl, sym, ap, ◌∙◌, codes, arith, append_assoc, append-nil, add-one, ne_eqb, ◌==◌, ◌≤◌, false, Option, decimal, map, flat_map, Result, Ok, Err, MatchResult, decimal_digit, decimal_injective, cases_eq, get_or_from_slice_get, slice_get-get_or, slice_get_within}
-use Rattle.script_core.proofs.Common.{FILES, Look, Descriptors, look_at, descriptor_limit, Held, mode_in, flock_mode_in, IsHeldReport, Wait, ProcState, Rules, Manager, Visit, State, Visits, StandsFor, processes_of, state_at, Extends, States, StateLine, AreStateLines, IsChangesText, IsStateText, TellsState, marked_line}
+use Rattle.script_core.proofs.Common.{FILES, Look, Descriptors, look_at, Held, mode_in, flock_mode_in, IsHeldReport, Wait, ProcState, Rules, Manager, Visit, State, Visits, StandsFor, processes_of, state_at, Extends, States, StateLine, AreStateLines, IsChangesText, IsStateText, TellsState, marked_line}
 use Rattle.std.proofs.lemmas.Grind.{flat_map-append}
 use Rattle.std.proofs.Common.{OnOk}
 use Rattle.std.proofs.lemmas.List.{take_more}
 use Rattle.lock_manager.specs.declared.request.TheConstants.{SECTIONS}
 use Rattle.script_core.specs.declared.states.States.TheVariants as places
 use Rattle.script_core.specs.declared.state_lines.StateLine.TheVariants as lines
-use Rattle.script_core.specs.StateText.{AreMissing, AreToldAgainst, AsksForNoState, IsAmong, IsKept, standing_line, standing_lines, descriptor_line, descriptor_lines, all_descriptor_lines, visit_line, visit_lines, section_lines, size_line, size_lines}
+use Rattle.script_core.specs.StateText.{AreMissing, AsksForNoState, IsAmong, IsKept, standing_line, standing_lines, descriptor_line, descriptor_lines, all_descriptor_lines, visit_line, visit_lines, section_lines, size_line, size_lines}
 
 -- where no process stands
 pub none_standing : (states : ℕ → ProcState) (old : List StateLine) → old ≡ old ++ standing_lines states 0
@@ -171,26 +171,12 @@ kept_first places.Changes rules processes S = refl
 later : (n : ℕ) → 1 ≤ n → (n + 1 == 1) ≡ false
 later n some = ne_eqb (n + 1) 1 (λ e. omega (arith, e, some))
 
-pub against_next : (rules : Rules) (processes number : ℕ) (T : State) (after : List StateLine) → 1 ≤ number
-    → AreStateLines processes (descriptor_limit rules.limits) T after → AreToldAgainst rules processes (number + 1) T after
-against_next rules processes number T after some are = rw (later number some) are
-
 -- what is told of the state where nothing is kept
 abbrev pub StateTold : States → Rules → ℕ → Manager → List StateLine → List StateLine → List ℕ → List ℕ → Type 0
 StateTold states rules number manager before after old new =
     (S T : State) → StandsFor manager T → IsKept states rules (processes_of manager) number S before
     → (more : List ℕ) × TellsState states rules (processes_of manager) number S T more × (new ≡ old ++ more)
     × IsKept states rules (processes_of manager) (number + 1) T after
-
--- what changed is told, and the lines of the state are kept
-pub changes_told : {E : Type 0} (r : Result Unit E) (manager : Manager) (rules : Rules) (number : ℕ) (old new : List ℕ) (before after : List StateLine)
-    → 1 ≤ number
-    → OnOk r (((S : State) → StandsFor manager S → AreStateLines (processes_of manager) (descriptor_limit rules.limits) S after)
-    × (more : List ℕ) × IsChangesText before after more × (new ≡ old ++ more))
-    → OnOk r (StateTold places.Changes rules number manager before after old new)
-changes_told (Ok done) manager rules number old new before after some told = λ S T stands kept.
-    (told.1, (before, kept, after, told.0 T stands, told.2), told.3, against_next rules (processes_of manager) number T after some (told.0 T stands))
-changes_told (Err error) manager rules number old new before after some told = tt
 
 -- ---- where a line stands
 

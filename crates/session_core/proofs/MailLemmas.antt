@@ -1,7 +1,6 @@
 -- Mailboxes by process: what is written to one of them, and what stays; for `Session::arrive`, `Session::new`, `Session::next_mail` and others.
 use Rattle.session_core.proofs.Common.{rules, ℕ, zero, suc, ◌≡◌, ◌≢◌, ◌+◌, ◌-◌, ◌<◌, ◌≤◌, refl, sym, ◌∙◌, ap, subst, arith, length, length-append, take, drop, slice_get, set, get_or, List, [], ◌∷◌, ◌++◌, Some, Option, Result, Ok, Err, eq-eqb, ne_eqb, ⊎_elim, common_steps, ◌==◌, if◌then◌else◌, IsNone, IsTrue, length-set, length-map, append-nil, append_assoc, cases_eq}
 use Rattle.session_core.proofs.Common.{Request, Manager, events_of, manager_of, events_in, sent_of, Mailbox, ProcState, Live, next_untaken, taken_in, mail_waiting, mail_sent, mail_taken, IsMailKept, Event, requests_taken, Holds, request_limit}
-use Rattle.std.proofs.Common.{IfOk}
 use Rattle.std.proofs.Math.Seq.{take-append-add}
 use Rattle.std.specs.Prelude.{IsSome, OnErr}
 use Rattle.std.proofs.lemmas.List.{get_or-set_same}
@@ -9,7 +8,6 @@ use Rattle.std.proofs.lemmas.Option.{slice_get-get_or}
 use Rattle.fd_table.specs.declared.Limits.{Limits}
 use Rattle.fd_table.specs.declared.Limits.TheVariants.{Small, Wide}
 use Rattle.fd_table.specs.Descriptors.{process_limit}
-use Rattle.lock_manager.specs.ManagerView.{SameManager}
 use Rattle.session_core.specs.declared.session.Session.{Session}
 use Rattle.session_core.specs.SessionView.{SameSession, Arrives, TakesRequest, sent_with}
 use Rattle.wait_core.specs.declared.processes.ProcessSet.{ProcessSet}
@@ -161,22 +159,6 @@ pub length-mail_sent-there : (processes : ℕ) (mailboxes : List Mailbox) (journ
     → length (mail_sent mailboxes journal p) ≡ mailbox.taken + length mailbox.waiting.items
 length-mail_sent-there processes mailboxes journal p mailbox mail there =
     length-mail_sent processes mailboxes journal mail p ∙ ap (λ m. taken_in m + length (waiting_in m)) there
-
--- where fewer requests of a process were taken than it sent, there is one in its mailbox
-pub untaken_waits : (processes : ℕ) (mailboxes : List Mailbox) (journal : List Event) (p : ℕ) (mailbox : Mailbox)
-    → IsMailKept processes mailboxes journal → mailbox_of mailboxes p ≡ Some mailbox
-    → length (events_of p journal) < length (mail_sent mailboxes journal p) → 0 < length mailbox.waiting.items
-untaken_waits processes mailboxes journal p mailbox mail there untaken = grind (arith, common_steps, length-mail_sent-there)
-
--- a manager stands for what it stands for
-pub SameManager-refl : (manager : Manager) → SameManager manager manager
-SameManager-refl manager = record { stands = λ S stands. stands; states = λ p. refl; rules = refl; processes = refl }
-
--- two facts of an answer as one
-pub IfOk-both : {T E : Type 0} (result : Result T E) (P Q R : T → Type 0) → ((x : T) → P x → Q x → R x) → IfOk result P
-    → IfOk result Q → IfOk result R
-IfOk-both (Ok x) P Q R both p q = both x p q
-IfOk-both (Err fault) P Q R both p q = tt
 
 -- a request that arrived, and was taken back where nothing else changed, leaves a session that shows the same
 pub SameSession-withdrawn : (old between refused new : Session) (p : ℕ) (request : Request) (n : ℕ) → Arrives old between p request n

@@ -1,5 +1,5 @@
 -- A journal with one more event: for `Session::arrive`, `Session::new`, `Session::take` and `Session::withdraw`.
-use Rattle.session_core.proofs.Common.{rules, ℕ, zero, suc, ◌≡◌, ◌≢◌, ◌+◌, ◌<◌, ◌≤◌, refl, sym, ◌∙◌, ap, subst, arith, eq-eqb, ne_eqb, length, length-append, set, List, [], ◌∷◌, ◌++◌, ⊎_elim, Option, Some, None, IfSome, All, slice_get, drop, common_steps, ◌==◌, if◌then◌else◌, IsNone, cases_eq, length-map, length-set, map-append, append_assoc, append-nil, filter-append, ∥∥₁_map}
+use Rattle.session_core.proofs.Common.{rules, ℕ, zero, suc, ◌≡◌, ◌≢◌, ◌+◌, ◌≤◌, refl, sym, ◌∙◌, ap, subst, arith, eq-eqb, ne_eqb, length, length-append, set, List, [], ◌∷◌, ◌++◌, ⊎_elim, Option, Some, None, IfSome, All, slice_get, drop, common_steps, ◌==◌, if◌then◌else◌, IsNone, cases_eq, length-map, length-set, map-append, append_assoc, append-nil, filter-append, ∥∥₁_map}
 use Rattle.session_core.proofs.Common.{Request, Manager, State, opening_state, StandsFor, rules_of, processes_of, Mailbox, Event, AreLastAnswers, AreTold, mail_waiting, mail_sent, mail_taken, taken_in, IsMailKept, IsEmptyMailbox, IsStep, IsRun, events_of, requests_taken, next_untaken, Holds, request_limit}
 use Rattle.std.specs.List.{AllByRecursion as Each}
 use Rattle.std.proofs.lemmas.List.Elements.{recursion_from_All}
@@ -146,14 +146,6 @@ pub next_within : (mailboxes : List Mailbox) (place p : ℕ) (mailbox : Mailbox)
     → StandsAt mailboxes place p mailbox → next_untaken (mail_sent mailboxes journal) journal p ≡ Some request
     → mailbox.waiting.items ≡ request ∷ drop 1 mailbox.waiting.items
 next_within mailboxes place p mailbox journal request h h2 = grind (arith, common_steps, mailbox_of-there, next_untaken-waits)
-
--- so there is one in it
-pub next_waits : (mailboxes : List Mailbox) (place p : ℕ) (mailbox : Mailbox) (journal : List Event) (request : Request)
-    → StandsAt mailboxes place p mailbox → next_untaken (mail_sent mailboxes journal) journal p ≡ Some request
-    → 0 < length mailbox.waiting.items
-next_waits mailboxes place p mailbox journal request at next =
-    let first = ap length (next_within mailboxes place p mailbox journal request at next) in
-    omega (arith, first)
 
 -- what each process sent stays, where the first request in a mailbox is taken
 mail_sent-taken : (mailboxes : List Mailbox) (place p : ℕ) (before after : Mailbox) (journal : List Event) (event : Event)

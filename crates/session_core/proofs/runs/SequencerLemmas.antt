@@ -1,5 +1,5 @@
 -- What a sequencer takes, one event after another, and with one arrival more: for `Sequencer::deliver`, `drain` and `run_all`.
-use Rattle.session_core.proofs.Common.{common_steps, rules, ℕ, zero, suc, ◌≡◌, ◌+◌, ◌-◌, ◌<◌, ◌≤◌, refl, sym, ◌∙◌, ap, subst, arith, eq-eqb, ne_eqb, length, List, [], ◌∷◌, ◌++◌, Some, drop, take, slice_get, get_or, ⊎_elim, inr, Result, Ok, Err, ◌==◌, if◌then◌else◌, IsNone, cases_eq, append-nil, append_assoc}
+use Rattle.session_core.proofs.Common.{rules, ℕ, zero, suc, ◌≡◌, ◌+◌, ◌-◌, ◌<◌, ◌≤◌, refl, sym, ◌∙◌, ap, subst, arith, eq-eqb, ne_eqb, length, List, [], ◌∷◌, ◌++◌, Some, drop, take, slice_get, get_or, ⊎_elim, inr, Result, Ok, Err, ◌==◌, if◌then◌else◌, IsNone, cases_eq, append_assoc}
 use Rattle.session_core.proofs.Common.{Rules, Request, Live, StandsFor, rules_of, processes_of, state_at, Event, events_of, requests_sent, next_untaken, IsNext, IsDrained, manager_in, sent_by, waiting_at, HasTold, HasNoMail, HasRun}
 use Rattle.std.proofs.Common.{OnErr}
 use Rattle.std.specs.Prelude.{◌⊎◌}
@@ -66,11 +66,6 @@ next_told old new p request journal event live first none tells =
       least = rw tells.process (λ q below alive. subst IsNone (sym (next_is_first old journal q)) (none q below alive));
       number = rw tells.process tells.number;
     }
-
--- nothing was taken yet
-pub TakesOf-none : (sequencer : Sequencer) (journal : List Event) → HasTold sequencer journal
-    → TakesOf sequencer sequencer (sent_by sequencer journal) journal []
-TakesOf-none sequencer journal told = grind (arith, common_steps, append-nil)
 
 -- one more was taken
 pub TakesOf-push : (old between new : Sequencer) (journal more : List Event) (p : ℕ) (request : Request) (event : Event)
