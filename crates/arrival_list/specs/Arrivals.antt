@@ -1,5 +1,5 @@
 -- Items with their arrivals, and what is kept of them.
-use Rattle.std.specs.Prelude.{◌≡◌, ℕ, ◌<◌, ◌^◌, ⊤, Bool, List, [], ◌∷◌, length, map}
+use Rattle.std.specs.Prelude.{◌≡◌, ℕ, ◌-◌, ◌<◌, ◌≤◌, ◌^◌, ⊤, Bool, List, [], ◌∷◌, length, map}
 use Rattle.std.specs.Bool.{nat_le}
 use Rattle.std.specs.List.{AllByRecursion}
 use Rattle.arrival_list.specs.declared.arrived.Arrived.{Arrived}
@@ -18,7 +18,8 @@ abbrev pub AreRisingTo : {T : Type 0} → ℕ → List (Arrived T) → Type 0
 AreRisingTo next [] = ⊤
 AreRisingTo next (a ∷ arrived) = (a.arrival < next) × AllByRecursion (λ b. a.arrival < b.arrival) arrived × AreRisingTo next arrived
 
--- the items are so many, where they can be counted, and the rest tells of them, too
+-- the items are so many, or as many as can be counted, and the rest tells of them, too
 pub record Tells {T S : Type 0} (tells : S → List T → Type 0) (counted : Counted S) (arrived : List (Arrived T)) : Type 0 where
   pub count : length arrived < 2 ^ 64 → counted.count ≡ length arrived
+  pub most : 2 ^ 64 ≤ length arrived → counted.count ≡ 2 ^ 64 - 1
   pub summary : tells counted.summary (items_of arrived)

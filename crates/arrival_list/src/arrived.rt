@@ -34,6 +34,15 @@ impl<T: Copy, S: Summary<T> + Copy> Summary<Arrived<T>> for Counted<S> {
         self.summary.add(&arrived.item);
     }
 
+    fn leave(&mut self, arrived: &Arrived<T>) -> bool {
+        // (so many may be more than can be counted)
+        if self.count == u64::MAX {
+            return false;
+        }
+        self.count = self.count.saturating_sub(1);
+        self.summary.leave(&arrived.item)
+    }
+
     fn append(&mut self, more: &Counted<S>) {
         self.count = self.count.saturating_add(more.count);
         self.summary.append(&more.summary);

@@ -24,6 +24,10 @@ impl Summary<u64> for Greatest {
         self.0 = self.0.max(*number);
     }
 
+    fn leave(&mut self, number: &u64) -> bool {
+        *number < self.0
+    }
+
     fn append(&mut self, more: &Greatest) {
         self.0 = self.0.max(more.0);
     }

@@ -1,5 +1,5 @@
 -- Owners of runs.
-use Rattle.std.specs.Prelude.{◌≡◌, ◌<◌, ◌⊎◌, Bool, false, ◌&&◌, ◌||◌, ◌==◌, nat_lt, Option, Some, None}
+use Rattle.std.specs.Prelude.{◌≡◌, ◌<◌, ◌⊎◌, Bool, false, not, ◌&&◌, ◌||◌, ◌==◌, nat_lt, Option, Some, None}
 use Rattle.std.specs.Bool.{nat_le}
 use Rattle.interval_index.specs.declared.Holder.{Holder}
 use Rattle.interval_index.specs.declared.Run.{Run}
@@ -24,3 +24,8 @@ is_by holder bound = nat_lt holder.class bound.class || (holder.class == bound.c
 abbrev pub has_by : Option Holder → Holder → Bool
 has_by None bound = false
 has_by (Some holder) bound = is_by holder bound
+
+-- there is an owner, and it comes before the other
+abbrev pub is_before : Option Holder → Holder → Bool
+is_before None bound = false
+is_before (Some holder) bound = not (is_by bound holder)

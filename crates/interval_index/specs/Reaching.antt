@@ -1,5 +1,5 @@
 -- How far runs reach, by owner.
-use Rattle.std.specs.Prelude.{◌≡◌, ℕ, ◌≤◌, Bool, true, false, not, ◌&&◌, cond, Option, Some, None, List}
+use Rattle.std.specs.Prelude.{◌≡◌, ℕ, ◌≤◌, Bool, true, false, not, ◌&&◌, ◌||◌, nat_lt, cond, Option, Some, None, List}
 use Rattle.std.specs.Bool.{nat_le}
 use Rattle.std.specs.List.{list_any, AllByRecursion}
 use Rattle.range_core.specs.declared.Mode.TheVariants.{Read, Write}
@@ -8,7 +8,7 @@ use Rattle.interval_index.specs.declared.Run.{Run}
 use Rattle.interval_index.specs.declared.reach.Reach.{Reach}
 use Rattle.interval_index.specs.declared.reach.Reaches.{Reaches}
 use Rattle.interval_index.specs.declared.least.Least.{Least}
-use Rattle.interval_index.specs.Holders.{holder_of, is_same_holder, is_by, has_by}
+use Rattle.interval_index.specs.Holders.{holder_of, is_same_holder, is_by, has_by, is_before}
 use Rattle.interval_index.specs.Tests.{conflicts_with, is_others_from}
 
 -- there is a last byte, and it is this byte or behind it
@@ -46,3 +46,20 @@ pub record Tells (summary : Reaches) (runs : List Run) : Type 0 where
   pub all : TellsOf (λ run. conflicts_with Write run.mode) summary.all runs
   pub writes : TellsOf (λ run. conflicts_with Read run.mode) summary.writes runs
   pub least : TellsLeast summary.least runs
+
+-- there is a last byte, and it lies behind this one
+abbrev pub is_beyond : Option ℕ → ℕ → Bool
+is_beyond None byte = false
+is_beyond (Some last) byte = nat_lt byte last
+
+-- others reach farther than the run, whoever asks
+abbrev pub outlasts : Reach → Run → Bool
+outlasts reach run = is_beyond (cond (is_same_holder (holder_of run) reach.holder) reach.last reach.other) run.span.last
+
+-- two owners come before the run's, and some run may end before it
+abbrev pub precedes : Least → Run → Bool
+precedes least run = nat_lt least.last run.span.last && (is_before least.holder (holder_of run) && is_before least.other (holder_of run))
+
+-- what is told of runs is told of them without this one
+abbrev pub stays_without : Reaches → Run → Bool
+stays_without reaches run = outlasts reaches.all run && (precedes reaches.least run && (not (conflicts_with Read run.mode) || outlasts reaches.writes run))

@@ -2,8 +2,8 @@
 ghost use Rattle.std.specs.Prelude.{◌≡◌, true, false, List, [], ◌∷◌, ◌++◌, ◌||◌};
 ghost use Rattle.interval_index.specs.declared.Holder.{Holder};
 ghost use Rattle.interval_index.specs.declared.Run.{Run};
-ghost use Rattle.interval_index.specs.Holders.{is_by, has_by};
-ghost use Rattle.interval_index.specs.Reaching.{TellsLeast, other_than};
+ghost use Rattle.interval_index.specs.Holders.{is_before, is_by, has_by};
+ghost use Rattle.interval_index.specs.Reaching.{TellsLeast, other_than, precedes};
 
 use crate::{Holder, Run};
 
@@ -47,6 +47,16 @@ pub(crate) fn is_as_early(holder: Option<Holder>, other: Option<Holder>) -> bool
     }
 }
 
+/// Whether there is an owner, and it comes before the other.
+fn is_before(holder: Option<Holder>, other: Holder) -> bool
+    ensures { result ≡ is_before holder other }
+{
+    match holder {
+        None => false,
+        Some(holder) => !other.is_by(holder),
+    }
+}
+
 impl Least {
     /// That of no run.
     pub(crate) fn nobody() -> Least
@@ -83,6 +93,14 @@ impl Least {
             self.other = lesser(more.other, self.holder);
             self.holder = more.holder;
         }
+    }
+
+    /// Whether two owners come before the run's, and some run may end before it.
+    pub(crate) fn precedes(&self, run: &Run) -> bool
+        ensures { result ≡ precedes self.now run.now }
+    {
+        let holder = run.holder();
+        self.last < run.span.last && is_before(self.holder, holder) && is_before(self.other, holder)
     }
 
     /// The least owner that isn't this one.

@@ -42,7 +42,7 @@ pub struct FirstInTheWay {
     pub byte: u64,
     /// The least owner of those that block there.
     pub holder: Holder,
-    /// Its run there, where the search met it: it needs not be looked for among the owner's.
+    /// Its run there, where the search met it: it need not be looked for among the owner's.
     pub run: Option<Run>,
 }
 

@@ -2,7 +2,7 @@
 ghost use Rattle.std.specs.Prelude.{◌≡◌, ℕ, Bool, true, false, List, [], ◌∷◌, ◌++◌, ◌||◌};
 ghost use Rattle.interval_index.specs.declared.Run.{Run};
 ghost use Rattle.interval_index.specs.Tests.{conflicts_with};
-ghost use Rattle.interval_index.specs.Reaching.{is_reached, reaches, TellsOf, Tells};
+ghost use Rattle.interval_index.specs.Reaching.{is_reached, outlasts, reaches, stays_without, TellsOf, Tells};
 
 use crate::least::Least;
 use crate::{Holder, Run};
@@ -91,6 +91,21 @@ impl Reach {
         }
     }
 
+    /// Whether others reach farther than this run, whoever asks.
+    fn outlasts(&self, run: &Run) -> bool
+        ensures { result ≡ outlasts self.now run.now }
+    {
+        let last = if run.holder() == self.holder {
+            self.last
+        } else {
+            self.other
+        };
+        match last {
+            None => false,
+            Some(last) => run.span.last < last,
+        }
+    }
+
     /// Whether some run of another owner ends at this byte or behind it.
     pub(crate) fn reaches(&self, holder: Holder, byte: u64) -> bool
         ensures { result ≡ reaches self.now holder byte }
@@ -117,6 +132,29 @@ impl Reaches {
             Mode::Write => &self.all,
         }
     }
+
+    /// Whether the same is told of the runs without this one. It says yes only where it is.
+    fn stays_without(&self, run: &Run) -> bool
+        ensures { result ≡ stays_without self.now run.now }
+    {
+        self.all.outlasts(run)
+            && self.least.precedes(run)
+            && (!Mode::Read.conflicts_with(run.mode) || self.writes.outlasts(run))
+    }
+
+    /// One run more, behind the others.
+    fn note(&mut self, run: &Run)
+        ensures { (runs : List Run) → Tells self.old runs → Tells self.new (runs ++ run.now ∷ []) }
+    {
+        let reach = Reach::of(run);
+        let writes = match run.mode {
+            Mode::Read => Reach::nobody(),
+            Mode::Write => reach,
+        };
+        self.all.append(reach);
+        self.writes.append(writes);
+        self.least.append(Least::of(run));
+    }
 }
 
 impl Summary<Run> for Reaches {
@@ -131,14 +169,11 @@ impl Summary<Run> for Reaches {
     }
 
     fn add(&mut self, run: &Run) {
-        let reach = Reach::of(run);
-        let writes = match run.mode {
-            Mode::Read => Reach::nobody(),
-            Mode::Write => reach,
-        };
-        self.all.append(reach);
-        self.writes.append(writes);
-        self.least.append(Least::of(run));
+        self.note(run);
+    }
+
+    fn leave(&mut self, run: &Run) -> bool {
+        self.stays_without(run)
     }
 
     fn append(&mut self, more: &Reaches) {

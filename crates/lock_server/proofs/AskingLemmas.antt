@@ -165,3 +165,17 @@ module _ (a b : Hull) (tickets : (n m : ℕ) → Holds a.tickets n m → Holds b
 pub within_both : (hull : Hull) (waits others : List Pending) → AreWithin hull waits → AreWithin hull others → AreWithin hull (waits ++ others)
 within_both hull [] others one other = other
 within_both hull (wait ∷ waits) others one other = (one.0, within_both hull waits others one.1 other)
+
+end_within : (hull : Hull) (waits : List Pending) (wait : Pending) → AreWithin hull (waits ++ wait ∷ []) → AreWithin hull (wait ∷ waits)
+end_within hull [] wait within = within
+end_within hull (first ∷ waits) wait within = let all = end_within hull waits wait within.1 in (all.0, (within.0, all.1))
+
+-- whether waits lie within a hull does not depend on their order
+pub within_moved : (hull : Hull) (front back : List Pending) (wait : Pending) → AreWithin hull ((front ++ back) ++ wait ∷ []) → AreWithin hull (front ++ wait ∷ back)
+within_moved hull [] back wait within = end_within hull back wait within
+within_moved hull (first ∷ front) back wait within = (within.0, within_moved hull front back wait within.1)
+
+-- and the others lie within it
+pub within_left : (hull : Hull) (front back : List Pending) (wait : Pending) → AreWithin hull (front ++ wait ∷ back) → AreWithin hull (front ++ back)
+within_left hull [] back wait within = within.1
+within_left hull (first ∷ front) back wait within = (within.0, within_left hull front back wait within.1)

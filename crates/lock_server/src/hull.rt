@@ -51,6 +51,11 @@ impl Between {
         }
     }
 
+    /// Whether there may be lesser numbers than the one, and greater than the other.
+    fn surrounds(self, least: u64, greatest: u64) -> bool {
+        self.least < least && greatest < self.greatest
+    }
+
     /// Whether some of the numbers may lie from the one to the other.
     pub(crate) fn meets(self, least: u64, greatest: u64) -> bool
         ensures { result ≡ false → (n m : ℕ) → Holds self n m → n ≤ greatest → least ≤ m → ⊥ }
@@ -73,6 +78,18 @@ impl Hull {
             owners: Between::of(wait.owner, wait.owner),
             bytes,
             whole,
+        }
+    }
+
+    /// Whether the wait lies at no end, so that it would be no narrower without it.
+    fn surrounds(&self, wait: &Pending) -> bool {
+        match wait.family {
+            Family::Bytes => {
+                self.tickets.surrounds(wait.ticket, wait.ticket)
+                    && self.owners.surrounds(wait.owner, wait.owner)
+                    && self.bytes.surrounds(wait.span.first, wait.span.last)
+            }
+            Family::Whole => false,
         }
     }
 
@@ -101,6 +118,11 @@ impl Summary<Pending> for Hull {
 
     fn add(&mut self, wait: &Pending) {
         self.append(&Hull::of(wait));
+    }
+
+    // The others lie within it in any case.
+    fn leave(&mut self, wait: &Pending) -> bool {
+        self.surrounds(wait)
     }
 
     fn append(&mut self, more: &Hull) {

@@ -69,14 +69,20 @@ impl OwnerRuns {
     fn ready(&mut self, span: Span, mode: Option<Mode>)
         ensures { SameRuns self.old self.new }
     {
-        if mode.is_some() || self.is_inside_a_run(span) {
+        if mode.is_some() || self.is_long_and_split_by(span) {
             self.plant();
         }
     }
 
-    /// Whether some run reaches beyond the span at both ends.
-    fn is_inside_a_run(&self, span: Span) -> bool {
-        match self.run_at(span.first) {
+    /// Whether a list of many runs has one that reaches beyond the span at both ends.
+    fn is_long_and_split_by(&self, span: Span) -> bool {
+        let Kept::Few(list) = &self.kept else {
+            return false;
+        };
+        if list.runs().len() <= FEW_RUNS {
+            return false;
+        }
+        match list.run_at(span.first) {
             Some((_, run)) => run.first < span.first && span.last < run.last,
             None => false,
         }

@@ -15,9 +15,9 @@ pub struct Writes {
 }
 
 impl Writes {
-    /// One run more.
+    /// One run more, wherever it stands among the others.
     fn note(&mut self, run: &(Mode, Span))
-        ensures { (runs : List (Mode × Span)) → HasWrite self.old runs → HasWrite self.new (runs ++ run.now ∷ []) }
+        ensures { (front back : List (Mode × Span)) → HasWrite self.old (front ++ back) → HasWrite self.new (front ++ run.now ∷ back) }
     {
         self.some = self.some || run_conflicts(Mode::Read, run);
     }
@@ -49,6 +49,10 @@ impl Summary<(Mode, Span)> for Writes {
 
     fn add(&mut self, run: &(Mode, Span)) {
         self.note(run);
+    }
+
+    fn leave(&mut self, run: &(Mode, Span)) -> bool {
+        !run_conflicts(Mode::Read, run)
     }
 
     fn append(&mut self, more: &Writes) {

@@ -2,5 +2,6 @@ pub mod Crossing
 pub mod CutLemmas
 pub mod Depths
 pub mod Forks
+pub mod Growing
 pub mod ListLemmas
 pub mod Splits

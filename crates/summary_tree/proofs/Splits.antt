@@ -3,7 +3,7 @@ use Rattle.std.proofs.Common.{append-nil, ◌≡◌, ℕ, zero, suc, ◌+◌, �
 use Rattle.std.specs.List.{find, list_any, position_or_len, insert, remove, AllByRecursion}
 use Rattle.std.proofs.lemmas.List.{take-append-drop}
 use Rattle.std.proofs.lemmas.List.Sums.{prefix_len-le-length}
-use Rattle.summary_tree.specs.Cuts.{IsCutBy, first_passes, put_before, with_first, without_first, before}
+use Rattle.summary_tree.specs.Cuts.{first_passes, put_before, with_first, without_first, before}
 
 -- no item passes
 abbrev pub NonePasses : {X : Type 0} → (X → Bool) → List X → Type 0
@@ -88,10 +88,14 @@ before_left p [] (y ∷ m) h = before_first_at p y m (p y) h
 before_left p (z ∷ l) m h =
     elim (p z) as (λ b. cond b [] (z ∷ before p (l ++ m)) ≡ cond b [] (z ∷ before p l)) [ true ↦ refl | false ↦ ap (λ ys. z ∷ ys) (before_left p l m h) ]
 
--- where none passes, all are before it
-pub before_all : {X : Type 0} (p : X → Bool) (l : List X) → NonePasses p l → before p l ≡ l
-before_all p [] h = refl
-before_all p (z ∷ l) h = ap (λ b. cond b [] (z ∷ before p l)) h.0 ∙ ap (λ ys. z ∷ ys) (before_all p l h.1)
+before_among_at : {X : Type 0} (p : X → Bool) (z : X) (l m : List X) (b : Bool) → (b || list_any p l) ≡ true → (list_any p l ≡ true → before p (l ++ m) ≡ before p l) → cond b [] (z ∷ before p (l ++ m)) ≡ cond b [] (z ∷ before p l)
+before_among_at p z l m true h f = refl
+before_among_at p z l m false h f = ap (λ ys. z ∷ ys) (f h)
+
+-- where some item of l passes, none of m is before the first that does
+pub before_among : {X : Type 0} (p : X → Bool) (l m : List X) → list_any p l ≡ true → before p (l ++ m) ≡ before p l
+before_among p [] m h = absurd (cc)
+before_among p (z ∷ l) m h = before_among_at p z l m (p z) h (before_among p l m)
 
 -- where none passes, none is found
 pub none_passes : {X : Type 0} (p : X → Bool) (l : List X) → NonePasses p l → find p l ≡ None
@@ -136,19 +140,6 @@ inserted_back (y ∷ xs) (suc n) (suc i) x h k =
 pub all_back : {X : Type 0} (P : X → Type 0) (l m : List X) → AllByRecursion P (l ++ m) → AllByRecursion P m
 all_back P [] m h = h
 all_back P (y ∷ l) m h = all_back P l m h.1
-
-none_before_each : {X : Type 0} (p : X → Bool) (xs : List X) → EachPasses p xs → before p xs ≡ []
-none_before_each p [] h = refl
-none_before_each p (y ∷ xs) h = ap (λ b. cond b [] (y ∷ before p xs)) h.0
-
-before_both_at : {X : Type 0} (p : X → Bool) (y : X) (l m : List X) (b : Bool) → p y ≡ b → IsCutBy p (y ∷ (l ++ m)) → before p (l ++ m) ≡ before p l ++ before p m → cond b [] (y ∷ before p (l ++ m)) ≡ cond b [] (y ∷ before p l) ++ before p m
-before_both_at p y l m true e h f = sym (none_before_each p m (all_back (λ z. p z ≡ true) l m (h.0 e)))
-before_both_at p y l m false e h f = ap (λ ys. y ∷ ys) f
-
--- what is before the cut of a list in two parts
-pub before_both : {X : Type 0} (p : X → Bool) (l m : List X) → IsCutBy p (l ++ m) → before p (l ++ m) ≡ before p l ++ before p m
-before_both p [] m h = refl
-before_both p (y ∷ l) m h = before_both_at p y l m (p y) refl h (before_both p l m h.1)
 
 put_at_end : {X : Type 0} (p : X → Bool) (x : X) (b r : List X) → r ≡ [] → put_before p x (b ++ r) ≡ put_before p x b ++ r
 put_at_end p x b r e = rw e (ap (put_before p x) (append-nil b) ∙ sym (append-nil (put_before p x b)))

@@ -1,5 +1,5 @@
 -- What a node stands for, and what holds of it.
-use Rattle.std.specs.Prelude.{◌≡◌, ℕ, ◌+◌, ◌-◌, ◌<◌, ◌≤◌, ◌^◌, List, [], ◌++◌, length}
+use Rattle.std.specs.Prelude.{◌≡◌, ℕ, ◌+◌, ◌-◌, ◌<◌, ◌≤◌, ◌^◌, List, [], ◌∷◌, ◌++◌, length}
 use Rattle.summary_tree.specs.declared.subtree.Node.{Node}
 use Rattle.summary_tree.specs.declared.subtree.Link.{Link}
 use Rattle.summary_tree.specs.declared.subtree.Link.TheVariants.{Empty, Fork}
@@ -34,6 +34,45 @@ pub record IsKeptNode {T S : Type 0} (tells : S → List T → Type 0) (node : N
   pub filled : 0 < length node.block
   pub summary : tells node.summary (items_of node)
   pub balance : IsBalanced node.left.nodes node.right.nodes
+
+-- of the node is kept what is to be kept of its items without this one, by which the excess of a part has changed from the one to the other
+pub record LacksItem {T S : Type 0} (tells : S → List T → Type 0) (node : Node T S) (item : T) (was is : ℕ) : Type 0 where
+  pub front : List T
+  pub back : List T
+  pub items : items_of node ≡ front ++ item ∷ back
+  pub summary : tells node.summary (front ++ back)
+  pub count : node.count ≡ length (front ++ back)
+  pub nodes : node.nodes ≡ nodes_of node
+  pub few : node.nodes ≤ node.count
+  pub excess : node.excess + is ≡ excess_of node + was
+  pub part : was ≤ node.excess
+  pub slight : excess_of node ≤ node.count + 1
+  pub fits : node.count + 1 < 2 ^ 64
+
+-- of the node is kept what is to be kept of its items with this one, by which the excess of a part has changed from the one to the other
+pub record KeepsItem {T S : Type 0} (tells : S → List T → Type 0) (node : Node T S) (item : T) (was is : ℕ) : Type 0 where
+  pub front : List T
+  pub back : List T
+  pub items : items_of node ≡ front ++ back
+  pub summary : tells node.summary (front ++ item ∷ back)
+  pub count : node.count ≡ length (front ++ item ∷ back)
+  pub nodes : node.nodes ≡ nodes_of node
+  pub excess : node.excess + is ≡ excess_of node + was
+  pub part : was ≤ node.excess
+  pub fits : node.count < 2 ^ 64
+
+-- of the node is kept what is to be kept of its items with this one in place of the other
+pub record SwapsItem {T S : Type 0} (tells : S → List T → Type 0) (node : Node T S) (item other : T) : Type 0 where
+  pub front : List T
+  pub back : List T
+  pub items : items_of node ≡ front ++ other ∷ back
+  pub summary : tells node.summary (front ++ item ∷ back)
+  pub count : node.count ≡ length (front ++ item ∷ back)
+  pub nodes : node.nodes ≡ nodes_of node
+  pub few : node.nodes ≤ node.count
+  pub excess : node.excess ≡ excess_of node
+  pub slight : node.excess ≤ node.count
+  pub fits : node.count < 2 ^ 64
 
 -- the node, if there is one, is kept
 abbrev pub IsKept : {T S : Type 0} → (S → List T → Type 0) → Link T S → Type 0

@@ -207,7 +207,7 @@ impl<T: Copy, S: Summary<T> + Copy> Block<T, S> {
         ensures { self.new ≡ insert self.old place item }
     {
         self.items.insert(place, item).unwrap();
-        self.summary = summary_of(&self.items);
+        self.summary.add(&item);
     }
 
     /// The same where there is no room: some of the items go into an empty block.
@@ -237,7 +237,9 @@ impl<T: Copy, S: Summary<T> + Copy> Block<T, S> {
         ensures rest { self.new ≡ remove self.old place }
     {
         let item = self.items.remove(place);
-        self.summary = summary_of(&self.items);
+        if !self.summary.leave(&item) {
+            self.summary = summary_of(&self.items);
+        }
         item
     }
 

@@ -32,9 +32,13 @@ pub trait Summary<T> {
     fn none() -> Self
         ensures { tells result [] };
 
-    /// One item more, behind the others.
+    /// One item more, wherever it stands among the others.
     fn add(&mut self, item: &T)
-        ensures { (items : List T) → tells self.old items → tells self.new (items ++ item.now ∷ []) };
+        ensures { (front back : List T) → tells self.old (front ++ back) → tells self.new (front ++ item.now ∷ back) };
+
+    /// One item less, where what is kept of the others can be told without going to them: where it says no, that isn't told.
+    fn leave(&mut self, item: &T) -> bool
+        ensures { (front back : List T) → tells self.old (front ++ item.now ∷ back) → result ≡ true → tells self.new (front ++ back) };
 
     /// The items of another one more, behind the others.
     fn append(&mut self, more: &Self)

@@ -39,6 +39,13 @@ pub(crate) struct Node<T: Copy, S: Summary<T> + Copy> {
     pub(crate) block: Block<T, S>,
 }
 
+/// In how many nodes items are, and by how many the nodes' blocks exceed what a part of a split block may have.
+#[derive(Clone, Copy)]
+pub(crate) struct Size {
+    nodes: u64,
+    excess: u64,
+}
+
 impl<T: Copy, S: Summary<T> + Copy> Model for Subtree<T, S> {
     ghost use Rattle.summary_tree.specs.Contents.{Parts};
 
@@ -99,6 +106,25 @@ impl<T: Copy, S: Summary<T> + Copy> Subtree<T, S> {
             Link::Empty => 0,
             Link::Fork(node) => node.excess,
         }
+    }
+
+    /// How many nodes there are, and the excess of their blocks.
+    fn size(&self) -> Size
+        ensures nodes { result.nodes ≡ self.now.nodes }
+        ensures excess { result.excess ≡ self.now.excess }
+    {
+        Size {
+            nodes: self.nodes(),
+            excess: self.excess(),
+        }
+    }
+
+    /// A proof reads from it that there are no more nodes than items, and that their excess is no greater; it goes to none.
+    fn is_small(&self)
+        ensures nodes { self.now.nodes ≤ length self.now.items }
+        ensures excess { self.now.excess ≤ length self.now.items }
+    {
+        let _ = &self.link;
     }
 
     /// How many nodes the longest way down goes through.
@@ -252,7 +278,11 @@ impl<T: Copy, S: Summary<T> + Copy> Subtree<T, S> {
                     return;
                 }
                 node.left.walk(walk, found);
-                node.block.walk_before(cut, walk, found);
+                if node.block.ends_behind(cut) {
+                    node.block.walk_before(cut, walk, found);
+                    return;
+                }
+                node.block.walk(walk, found);
                 node.right.walk_before(cut, walk, found);
             }
         }

@@ -28,6 +28,13 @@ impl Summary<u64> for Total {
         self.sum = self.sum.wrapping_add(*number);
     }
 
+    fn leave(&mut self, number: &u64) -> bool {
+        self.count = self.count.wrapping_sub(1);
+        self.sum = self.sum.wrapping_sub(*number);
+        // (now and then all is told anew)
+        *number % 3 != 0
+    }
+
     fn append(&mut self, more: &Total) {
         self.count = self.count.wrapping_add(more.count);
         self.sum = self.sum.wrapping_add(more.sum);

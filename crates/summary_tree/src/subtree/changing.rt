@@ -1,13 +1,13 @@
 //! Items that come and go.
-ghost use Rattle.std.specs.Prelude.{◌≡◌, ◌+◌, ◌-◌, ◌*◌, ◌<◌, ◌≤◌, ◌^◌, [], ◌∷◌, ◌++◌, IfNone, length};
+ghost use Rattle.std.specs.Prelude.{◌≡◌, ◌+◌, ◌-◌, ◌*◌, ◌<◌, ◌≤◌, ◌^◌, [], ◌∷◌, ◌++◌, IfNone, IfSome, length};
 ghost use Rattle.std.specs.List.{find};
-ghost use Rattle.summary_tree.specs.Balance.{IsBalanced, IsOneMoreAtMost};
+ghost use Rattle.summary_tree.specs.Balance.{IsBalanced, IsNearlyBalanced, IsOneMoreAtMost};
 ghost use Rattle.summary_tree.specs.Cuts.{IsCutBy, put_before, with_first, without_first};
-ghost use Rattle.summary_tree.specs.Nodes.{excess_of, items_of, nodes_of};
+ghost use Rattle.summary_tree.specs.Nodes.{excess_of, items_of, nodes_of, IsKeptNode, KeepsItem, LacksItem, SwapsItem};
 ghost use Rattle.summary_tree.specs.Sides.{IsSideOf};
 
 use super::balancing::{rebalanced, whole};
-use super::{Link, Node, Subtree};
+use super::{Link, Node, Size, Subtree};
 use crate::places::Places;
 use crate::{BLOCK, Cut, Summary};
 use std::mem;
@@ -39,13 +39,17 @@ impl<T: Copy, S: Summary<T> + Copy> Subtree<T, S> {
             Link::Empty => *self = of_one(item, places.take()),
             Link::Fork(mut node) => match side_of(&node, cut) {
                 Side::Left => {
+                    let was = node.left.size();
                     node.left.put(cut, item, places);
-                    *self = rebalanced(node);
+                    let is = node.left.size();
+                    *self = grown(node, &item, was, is);
                 }
                 Side::Here => *self = put_here(node, cut, item, places),
                 Side::Right => {
+                    let was = node.right.size();
                     node.right.put(cut, item, places);
-                    *self = rebalanced(node);
+                    let is = node.right.size();
+                    *self = grown(node, &item, was, is);
                 }
             },
         }
@@ -65,16 +69,21 @@ impl<T: Copy, S: Summary<T> + Copy> Subtree<T, S> {
             Link::Empty => None,
             Link::Fork(mut node) => {
                 if !node.block.ends_behind(cut) {
+                    let was = node.right.size();
                     let taken = node.right.take(cut);
-                    *self = rebalanced(node);
+                    let is = node.right.size();
+                    *self = shrunk(node, taken, was, is);
                     return taken;
                 }
+                let was = node.left.size();
                 if let Some(taken) = node.left.take(cut) {
-                    *self = rebalanced(node);
+                    let is = node.left.size();
+                    *self = shrunk(node, Some(taken), was, is);
                     return Some(taken);
                 }
+                let was = node.block.excess();
                 let taken = node.block.take(cut);
-                *self = without_block(node);
+                *self = without_block(node, &taken, was);
                 Some(taken)
             }
         }
@@ -95,15 +104,15 @@ impl<T: Copy, S: Summary<T> + Copy> Subtree<T, S> {
             Link::Fork(mut node) => {
                 if !node.block.ends_behind(cut) {
                     let replaced = node.right.replace(cut, item);
-                    *self = whole(node);
+                    *self = renewed(node, replaced, &item);
                     return replaced;
                 }
                 if let Some(replaced) = node.left.replace(cut, item) {
-                    *self = whole(node);
+                    *self = renewed(node, Some(replaced), &item);
                     return Some(replaced);
                 }
                 let replaced = node.block.replace(cut, item);
-                *self = whole(node);
+                *self = renewed(node, Some(replaced), &item);
                 Some(replaced)
             }
         }
@@ -188,6 +197,52 @@ fn side_of<T: Copy, S: Summary<T> + Copy, C: Cut<T>>(node: &Node<T, S>, cut: &C)
     Side::Here
 }
 
+/// The tree of a node with an item more on a side that was of the one size, and is of the other.
+fn grown<T: Copy, S: Summary<T> + Copy>(
+    node: Box<Node<T, S>>,
+    item: &T,
+    was: Size,
+    is: Size,
+) -> Subtree<T, S>
+    requires lacks { was.nodes ≡ is.nodes → LacksItem S.tells node.value item.now was.excess is.excess }
+    requires even { was.nodes ≡ is.nodes → IsBalanced node.value.left.nodes node.value.right.nodes }
+    requires balance { IsNearlyBalanced node.value.left.nodes node.value.right.nodes }
+    requires filled { 0 < length node.value.block }
+    requires fits { length node.value.left.items + length node.value.block + length node.value.right.items < 2 ^ 64 }
+    ensures items { result.items ≡ items_of node.value }
+    ensures nodes { result.nodes ≡ nodes_of node.value }
+    ensures excess { result.excess ≡ excess_of node.value }
+{
+    if was.nodes == is.nodes {
+        with_item(node, item, was.excess, is.excess)
+    } else {
+        rebalanced(node)
+    }
+}
+
+/// The tree of a node with an item more in no new node, by which the excess of one of its parts, and so its own, has changed from
+/// the one to the other: nobody goes to its sides.
+fn with_item<T: Copy, S: Summary<T> + Copy>(
+    mut node: Box<Node<T, S>>,
+    item: &T,
+    was: u64,
+    is: u64,
+) -> Subtree<T, S>
+    requires lacks { LacksItem S.tells node.value item.now was is }
+    requires balance { IsBalanced node.value.left.nodes node.value.right.nodes }
+    requires filled { 0 < length node.value.block }
+    ensures items { result.items ≡ items_of node.value }
+    ensures nodes { result.nodes ≡ nodes_of node.value }
+    ensures excess { result.excess ≡ excess_of node.value }
+{
+    node.count += 1;
+    node.excess = node.excess - was + is;
+    node.summary.add(item);
+    Subtree {
+        link: Link::Fork(node),
+    }
+}
+
 /// The tree of a node with an item more in its block; a full block shares its items with a node of the places.
 fn put_here<T: Copy, S: Summary<T> + Copy, C: Cut<T>>(
     mut node: Box<Node<T, S>>,
@@ -196,8 +251,7 @@ fn put_here<T: Copy, S: Summary<T> + Copy, C: Cut<T>>(
     places: &mut Places<T, S>,
 ) -> Subtree<T, S>
     requires place { 0 < places.old }
-    requires balance { IsBalanced node.value.left.nodes node.value.right.nodes }
-    requires filled { 0 < length node.value.block }
+    requires kept { IsKeptNode S.tells node.value }
     requires fits { length node.value.left.items + length node.value.block + length node.value.right.items + 1 < 2 ^ 64 }
     ensures items { result.items ≡ node.value.left.items ++ (put_before (C.is_behind cut.now) item node.value.block ++ node.value.right.items) }
     ensures count { length result.items ≡ length node.value.left.items + length node.value.block + length node.value.right.items + 1 }
@@ -206,8 +260,10 @@ fn put_here<T: Copy, S: Summary<T> + Copy, C: Cut<T>>(
     ensures paid { result.excess + 5 * places.old ≤ excess_of node.value + 5 * places.new + 1 }
 {
     if node.block.len() < BLOCK {
+        let was = node.block.excess();
         node.block.put(cut, item);
-        return whole(node);
+        let is = node.block.excess();
+        return with_item(node, &item, was, is);
     }
     let mut next = places.take();
     node.block.put_in_full(cut, item, &mut next.block);
@@ -215,8 +271,90 @@ fn put_here<T: Copy, S: Summary<T> + Copy, C: Cut<T>>(
     rebalanced(node)
 }
 
-/// The tree of a node that goes if its block is empty.
-fn without_block<T: Copy, S: Summary<T> + Copy>(mut node: Box<Node<T, S>>) -> Subtree<T, S>
+/// The tree of a node with an item in place of another, if it had that: nobody goes to its sides, where its summary can tell the rest.
+fn renewed<T: Copy, S: Summary<T> + Copy>(
+    mut node: Box<Node<T, S>>,
+    replaced: Option<T>,
+    item: &T,
+) -> Subtree<T, S>
+    requires swaps { IfSome replaced (λ other. SwapsItem S.tells node.value other item.now) }
+    requires balance { IsBalanced node.value.left.nodes node.value.right.nodes }
+    requires filled { 0 < length node.value.block }
+    requires fits { length node.value.left.items + length node.value.block + length node.value.right.items < 2 ^ 64 }
+    ensures items { result.items ≡ items_of node.value }
+    ensures nodes { result.nodes ≡ nodes_of node.value }
+    ensures excess { result.excess ≡ excess_of node.value }
+{
+    let Some(other) = replaced else {
+        return whole(node);
+    };
+    if !node.summary.leave(&other) {
+        return whole(node);
+    }
+    node.summary.add(item);
+    Subtree {
+        link: Link::Fork(node),
+    }
+}
+
+/// The tree of a node with an item less on a side that was of the one size, and is of the other.
+fn shrunk<T: Copy, S: Summary<T> + Copy>(
+    node: Box<Node<T, S>>,
+    taken: Option<T>,
+    was: Size,
+    is: Size,
+) -> Subtree<T, S>
+    requires keeps { was.nodes ≡ is.nodes → IfSome taken (λ item. KeepsItem S.tells node.value item was.excess is.excess) }
+    requires even { was.nodes ≡ is.nodes → IsBalanced node.value.left.nodes node.value.right.nodes }
+    requires balance { IsNearlyBalanced node.value.left.nodes node.value.right.nodes }
+    requires filled { 0 < length node.value.block }
+    requires fits { length node.value.left.items + length node.value.block + length node.value.right.items < 2 ^ 64 }
+    ensures items { result.items ≡ items_of node.value }
+    ensures nodes { result.nodes ≡ nodes_of node.value }
+    ensures excess { result.excess ≡ excess_of node.value }
+{
+    if let Some(item) = taken {
+        if was.nodes == is.nodes {
+            return without_item(node, &item, was.excess, is.excess);
+        }
+    }
+    rebalanced(node)
+}
+
+/// The tree of a node with an item less in as many nodes, by which the excess of one of its parts, and so its own, has changed from
+/// the one to the other: nobody goes to its sides, where its summary can tell the rest.
+fn without_item<T: Copy, S: Summary<T> + Copy>(
+    mut node: Box<Node<T, S>>,
+    item: &T,
+    was: u64,
+    is: u64,
+) -> Subtree<T, S>
+    requires keeps { KeepsItem S.tells node.value item.now was is }
+    requires balance { IsBalanced node.value.left.nodes node.value.right.nodes }
+    requires filled { 0 < length node.value.block }
+    ensures items { result.items ≡ items_of node.value }
+    ensures nodes { result.nodes ≡ nodes_of node.value }
+    ensures excess { result.excess ≡ excess_of node.value }
+{
+    node.left.is_small();
+    node.right.is_small();
+    if !node.summary.leave(item) {
+        return whole(node);
+    }
+    node.count -= 1;
+    node.excess = node.excess - was + is;
+    Subtree {
+        link: Link::Fork(node),
+    }
+}
+
+/// The tree of a node with an item less in its block, whose excess was this; it goes if its block is empty.
+fn without_block<T: Copy, S: Summary<T> + Copy>(
+    mut node: Box<Node<T, S>>,
+    item: &T,
+    was: u64,
+) -> Subtree<T, S>
+    requires keeps { KeepsItem S.tells node.value item.now was (length node.value.block - 12) }
     requires balance { IsBalanced node.value.left.nodes node.value.right.nodes }
     requires fits { length node.value.left.items + length node.value.block + length node.value.right.items < 2 ^ 64 }
     ensures items { result.items ≡ items_of node.value }
@@ -224,7 +362,8 @@ fn without_block<T: Copy, S: Summary<T> + Copy>(mut node: Box<Node<T, S>>) -> Su
     ensures excess { result.excess ≡ excess_of node.value }
 {
     if node.block.len() > 0 {
-        return whole(node);
+        let is = node.block.excess();
+        return without_item(node, item, was, is);
     }
     let left = mem::replace(&mut node.left, Subtree::new());
     let right = mem::replace(&mut node.right, Subtree::new());

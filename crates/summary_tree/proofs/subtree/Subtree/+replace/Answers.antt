@@ -1,8 +1,10 @@
-use Rattle.std.proofs.Common.{◌≡◌, None, Some, List, ◌++◌, ap, rules, sym, ◌∙◌}
+use Rattle.std.proofs.Common.{◌≡◌, None, Option, Some, IfSome, List, [], ◌∷◌, ◌++◌, refl, ap, rules, subst, sym, ◌∙◌, arith}
 use Rattle.std.specs.List.{find}
 use Rattle.summary_tree.specs.declared.subtree.Node.{Node}
 use Rattle.summary_tree.specs.Contents.{Parts}
 use Rattle.summary_tree.specs.Cuts.{with_first}
+use Rattle.summary_tree.specs.Nodes.{IsKeptNode}
+use Rattle.summary_tree.proofs.Growing.{with_side, Differ, differ_before, differ_behind, if_some, replaced, swaps_item}
 use Rattle.summary_tree.proofs.CutLemmas.{any_at_last, split_at}
 use Rattle.summary_tree.proofs.Forks.{at_fork}
 use Rattle.summary_tree.proofs.ListLemmas.{found_here, found_left, found_right}
@@ -109,5 +111,49 @@ returns-in_default-clause-items g t c =
     let left : c.deref_mut-in-Fork-2.result.now.left.items ≡ n.left.items = ap left_of c.deref_mut-in-Fork-2.ensures.value ∙ (ap items_in c.in_default.ensures.none ∙ ap left_of was) in
     let here : c.replace-replaced-in-Fork.new.self ≡ with_first p c.args.item n.block = c.replace-replaced-in-Fork.ensures.items ∙ ap (with_first p c.args.item) block in
     let right : c.deref_mut-in-Fork-2.result.now.right.items ≡ n.right.items = ap right_of c.deref_mut-in-Fork-2.ensures.value ∙ ap right_of was in
-    let now = c.whole-in-Fork.ensures.items ∙ (three left here right ∙ sym e) in
+    let now = c.renewed-in-Fork.ensures.items ∙ (three left here right ∙ sym e) in
     (cc)
+
+pub renewed-requires-clause-swaps : goal.renewed-requires-clause-swaps
+renewed-requires-clause-swaps g t c = if_some _ c.replace-replaced.result (λ y found.
+    let p = g.C.Cut.is_behind c.args.cut.now in
+    let x = c.args.item in
+    let f = at_fork c.self.view_is c.self.invariant (sym c.in-Fork.ensures.value) c.deref.ensures in
+    let m = c.deref_mut.result.now in
+    let part = c.replace-replaced.new.self in
+    let new : Node g.row.T.Denot g.row.S.Denot = record { left = m.left; right = part; summary = m.summary; count = m.count; nodes = m.nodes; excess = m.excess; block = m.block } in
+    let it : m ≡ c.deref.result.now = c.deref_mut.ensures.value ∙ sym c.deref.ensures in
+    let kept = subst (IsKeptNode g.S.Summary.tells) (sym it) f.kept in
+    let swapped = subst (λ ys. Differ (y ∷ []) (x ∷ []) m.right.items ys) (sym c.replace-replaced.ensures.items) (replaced p x y m.right.items (sym c.replace-replaced.ensures.item ∙ found)) in
+    swaps_item x y m new kept (record { summary = refl; count = refl; nodes = refl; excess = refl }) (differ_behind m.left.items _ _ (differ_behind m.block m.right.items part.items swapped)) (omega (arith, c.replace-replaced.ensures.nodes)) (omega (arith, c.replace-replaced.ensures.excess)))
+
+pub renewed-requires-in-Some-clause-swaps : goal.renewed-requires-in-Some-clause-swaps
+renewed-requires-in-Some-clause-swaps g t c =
+    let y = c.in-Some.replaced in
+    let p = g.C.Cut.is_behind c.args.cut.now in
+    let x = c.args.item in
+    let f = at_fork c.self.view_is c.self.invariant (sym c.in-Fork.ensures.value) c.deref.ensures in
+    let m = c.deref_mut-in-Fork.result.now in
+    let part = c.replace-in-Fork.new.self in
+    let new : Node g.row.T.Denot g.row.S.Denot = record { left = part; right = m.right; summary = m.summary; count = m.count; nodes = m.nodes; excess = m.excess; block = m.block } in
+    let it : m ≡ c.deref.result.now = c.deref_mut-in-Fork.ensures.value ∙ sym c.deref.ensures in
+    let kept = subst (IsKeptNode g.S.Summary.tells) (sym it) f.kept in
+    let swapped = subst (λ ys. Differ (y ∷ []) (x ∷ []) m.left.items ys) (sym c.replace-in-Fork.ensures.items) (replaced p x y m.left.items (sym c.replace-in-Fork.ensures.item ∙ c.in-Some.is)) in
+    swaps_item x y m new kept (record { summary = refl; count = refl; nodes = refl; excess = refl }) (differ_before m.left.items part.items (m.block ++ m.right.items) swapped) (omega (arith, c.replace-in-Fork.ensures.nodes)) (omega (arith, c.replace-in-Fork.ensures.excess))
+
+pub renewed-requires-in-Fork-clause-swaps : goal.renewed-requires-in-Fork-clause-swaps
+renewed-requires-in-Fork-clause-swaps g t c =
+    let p = g.C.Cut.is_behind c.args.cut.now in
+    let x = c.args.item in
+    let y = c.replace-replaced-in-Fork.result in
+    let f = at_fork c.self.view_is c.self.invariant (sym c.in-Fork.ensures.value) c.deref.ensures in
+    let first = c.deref_mut-in-Fork.result.now in
+    let m = c.deref_mut-in-Fork-2.result.now in
+    let part = c.replace-replaced-in-Fork.new.self in
+    let new : Node g.row.T.Denot g.row.S.Denot = record { left = m.left; right = m.right; summary = m.summary; count = m.count; nodes = m.nodes; excess = m.excess; block = part } in
+    let was : first ≡ c.deref.result.now = c.deref_mut-in-Fork.ensures.value ∙ sym c.deref.ensures in
+    let it : m ≡ first = c.deref_mut-in-Fork-2.ensures.value ∙ ap (λ left. with_side first left) c.in_default.ensures.none in
+    let kept = subst (IsKeptNode g.S.Summary.tells) (sym (it ∙ was)) f.kept in
+    let swapped = subst (λ ys. Differ (y ∷ []) (x ∷ []) m.block ys) (sym c.replace-replaced-in-Fork.ensures.items) (replaced p x y m.block (sym c.replace-replaced-in-Fork.ensures.item)) in
+    let long = c.replace-replaced-in-Fork.ensures.count in
+    swaps_item x y m new kept (record { summary = refl; count = refl; nodes = refl; excess = refl }) (differ_behind m.left.items _ _ (differ_before m.block part m.right.items swapped)) refl (omega (arith, long))

@@ -1,8 +1,10 @@
-use Rattle.std.proofs.Common.{◌≡◌, None, Some, List, ◌++◌, ap, rules, sym, ◌∙◌}
+use Rattle.std.proofs.Common.{◌≡◌, ◌-◌, None, Some, List, ◌++◌, length, refl, ap, rules, subst, sym, ◌∙◌, arith}
 use Rattle.std.specs.List.{find}
 use Rattle.summary_tree.specs.declared.subtree.Node.{Node}
 use Rattle.summary_tree.specs.Contents.{Parts}
 use Rattle.summary_tree.specs.Cuts.{without_first}
+use Rattle.summary_tree.specs.Nodes.{IsKeptNode}
+use Rattle.summary_tree.proofs.Growing.{with_side, Around, differ_before, differ_behind, around_taken, if_some, keeps_item}
 use Rattle.summary_tree.proofs.CutLemmas.{any_at_last, split_at}
 use Rattle.summary_tree.proofs.Forks.{at_fork}
 use Rattle.summary_tree.proofs.ListLemmas.{found_here, found_left, found_right}
@@ -110,3 +112,58 @@ returns-in_default-clause-rest g t c =
     let here : c.take-taken-in-Fork.new.self ≡ without_first p n.block = c.take-taken-in-Fork.ensures.rest ∙ ap (without_first p) block in
     let right : c.deref_mut-in-Fork-2.result.now.right.items ≡ n.right.items = ap right_of c.deref_mut-in-Fork-2.ensures.value ∙ ap right_of was in
     ap items_in c.without_block-in-Fork.view_is ∙ (c.without_block.ensures.items ∙ (three left here right ∙ sym e))
+
+pub shrunk-requires-clause-keeps : goal.shrunk-requires-clause-keeps
+shrunk-requires-clause-keeps g t c same = if_some _ c.take-taken.result (λ x found.
+    let p = g.C.Cut.is_behind c.args.cut.now in
+    let f = at_fork c.self.view_is c.self.invariant (sym c.in-Fork.ensures.value) c.deref.ensures in
+    let m = c.deref_mut.result.now in
+    let part = c.take-taken.new.self in
+    let new : Node g.row.T.Denot g.row.S.Denot = record { left = m.left; right = part; summary = m.summary; count = m.count; nodes = m.nodes; excess = m.excess; block = m.block } in
+    let it : m ≡ c.deref.result.now = c.deref_mut.ensures.value ∙ sym c.deref.ensures in
+    let kept = subst (IsKeptNode g.S.Summary.tells) (sym it) f.kept in
+    let taken = subst (λ ys. Around x m.right.items ys) (sym c.take-taken.ensures.rest) (around_taken p x m.right.items (sym c.take-taken.ensures.item ∙ found)) in
+    let before : c.deref-then-not-ends_behind.result.now ≡ m = c.deref-then-not-ends_behind.ensures ∙ sym c.deref_mut.ensures.value in
+    let was_nodes : c.size-was.result.nodes ≡ m.right.nodes = c.size-was.ensures.nodes ∙ ap (λ (k : Node g.row.T.Denot g.row.S.Denot). k.right.nodes) before in
+    let was_excess : c.size-was.result.excess ≡ m.right.excess = c.size-was.ensures.excess ∙ ap (λ (k : Node g.row.T.Denot g.row.S.Denot). k.right.excess) before in
+    let is_nodes : c.size-is.result.nodes ≡ part.nodes = c.size-is.ensures.nodes ∙ ap (λ (k : Node g.row.T.Denot g.row.S.Denot). k.right.nodes) c.deref-then-not-ends_behind-2.ensures in
+    let is_excess : c.size-is.result.excess ≡ part.excess = c.size-is.ensures.excess ∙ ap (λ (k : Node g.row.T.Denot g.row.S.Denot). k.right.excess) c.deref-then-not-ends_behind-2.ensures in
+    keeps_item x m new c.size-was.result.excess c.size-is.result.excess kept (record { summary = refl; count = refl; nodes = refl; excess = refl })
+    (differ_behind m.left.items _ _ (differ_behind m.block m.right.items part.items taken)) (omega (arith, same, was_nodes, is_nodes)) (omega (arith, was_excess, is_excess)) (omega (arith, was_excess)))
+
+pub shrunk-requires-in-Some-clause-keeps : goal.shrunk-requires-in-Some-clause-keeps
+shrunk-requires-in-Some-clause-keeps g t c same =
+    let x = c.in-Some.taken in
+    let p = g.C.Cut.is_behind c.args.cut.now in
+    let f = at_fork c.self.view_is c.self.invariant (sym c.in-Fork.ensures.value) c.deref.ensures in
+    let m = c.deref_mut-in-Fork.result.now in
+    let part = c.take.new.self in
+    let new : Node g.row.T.Denot g.row.S.Denot = record { left = part; right = m.right; summary = m.summary; count = m.count; nodes = m.nodes; excess = m.excess; block = m.block } in
+    let it : m ≡ c.deref.result.now = c.deref_mut-in-Fork.ensures.value ∙ sym c.deref.ensures in
+    let kept = subst (IsKeptNode g.S.Summary.tells) (sym it) f.kept in
+    let taken = subst (λ ys. Around x m.left.items ys) (sym c.take.ensures.rest) (around_taken p x m.left.items (sym c.take.ensures.item ∙ c.in-Some.is)) in
+    let before : c.deref-in-Fork.result.now ≡ m = c.deref-in-Fork.ensures ∙ sym c.deref_mut-in-Fork.ensures.value in
+    let was_nodes : c.size-was-in-Fork.result.nodes ≡ m.left.nodes = c.size-was-in-Fork.ensures.nodes ∙ ap (λ (k : Node g.row.T.Denot g.row.S.Denot). k.left.nodes) before in
+    let was_excess : c.size-was-in-Fork.result.excess ≡ m.left.excess = c.size-was-in-Fork.ensures.excess ∙ ap (λ (k : Node g.row.T.Denot g.row.S.Denot). k.left.excess) before in
+    let is_nodes : c.size-is-in-Some.result.nodes ≡ part.nodes = c.size-is-in-Some.ensures.nodes ∙ ap (λ (k : Node g.row.T.Denot g.row.S.Denot). k.left.nodes) c.deref-in-Some.ensures in
+    let is_excess : c.size-is-in-Some.result.excess ≡ part.excess = c.size-is-in-Some.ensures.excess ∙ ap (λ (k : Node g.row.T.Denot g.row.S.Denot). k.left.excess) c.deref-in-Some.ensures in
+    keeps_item x m new c.size-was-in-Fork.result.excess c.size-is-in-Some.result.excess kept (record { summary = refl; count = refl; nodes = refl; excess = refl })
+    (differ_before m.left.items part.items (m.block ++ m.right.items) taken) (omega (arith, same, was_nodes, is_nodes)) (omega (arith, was_excess, is_excess)) (omega (arith, was_excess))
+
+pub without_block-requires-clause-keeps : goal.without_block-requires-clause-keeps
+without_block-requires-clause-keeps g t c =
+    let p = g.C.Cut.is_behind c.args.cut.now in
+    let x = c.take-taken-in-Fork.result in
+    let f = at_fork c.self.view_is c.self.invariant (sym c.in-Fork.ensures.value) c.deref.ensures in
+    let first = c.deref_mut-in-Fork.result.now in
+    let m = c.deref_mut-in-Fork-2.result.now in
+    let block = c.take-taken-in-Fork.new.self in
+    let new : Node g.row.T.Denot g.row.S.Denot = record { left = m.left; right = m.right; summary = m.summary; count = m.count; nodes = m.nodes; excess = m.excess; block = block } in
+    let was : first ≡ c.deref.result.now = c.deref_mut-in-Fork.ensures.value ∙ sym c.deref.ensures in
+    let it : m ≡ first = c.deref_mut-in-Fork-2.ensures.value ∙ ap (λ left. with_side first left) c.in_default.ensures.none in
+    let kept = subst (IsKeptNode g.S.Summary.tells) (sym (it ∙ was)) f.kept in
+    let taken = subst (λ ys. Around x m.block ys) (sym c.take-taken-in-Fork.ensures.rest) (around_taken p x m.block (sym c.take-taken-in-Fork.ensures.item)) in
+    let excess : c.excess-was.result ≡ length m.block - 12 =
+    c.excess-was.ensures ∙ (ap (λ (k : Node g.row.T.Denot g.row.S.Denot). length k.block - 12) c.deref-in-Fork-2.ensures ∙ ap (λ (k : Node g.row.T.Denot g.row.S.Denot). length k.block - 12) (sym it)) in
+    keeps_item x m new c.excess-was.result (length block - 12) kept (record { summary = refl; count = refl; nodes = refl; excess = refl })
+    (differ_behind m.left.items _ _ (differ_before m.block block m.right.items taken)) refl (omega (arith, excess)) (omega (arith, excess))
