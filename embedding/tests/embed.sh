@@ -45,12 +45,6 @@ as_installed() {
     ${CC:-cc} $flags calls.c $words -l:libdehokuna.a $wraps -o "$built/calls-installed" && timeout 60 "$built/calls-installed"
 }
 
-# Whether what the document shows of the threaded program is what it has.
-as_shown() {
-    sed -n '/^static void serve/,/^}/p' threaded.c > "$built/serve"
-    [ -s "$built/serve" ] && sed -n '/^    static void serve/,/^    }/s/^    //p' ../../docs/EMBEDDING.md | diff - "$built/serve"
-}
-
 as_cxx() {
     ${CXX:-c++} -fsyntax-only -Wall -Werror -x c++ ../dehokuna.h
 }
@@ -63,7 +57,6 @@ mkdir -p "$built"
 try 'from C, and in threads' plainly
 if command -v valgrind > /dev/null; then try 'under valgrind' under_valgrind; else echo 'skipped: valgrind is not there'; fi
 try 'with the sanitizers' sanitized
-try 'in threads, as the document shows it' as_shown
 if command -v pkg-config > /dev/null; then try 'as installed' as_installed; else echo 'skipped: pkg-config is not there'; fi
 if command -v "${CXX:-c++}" > /dev/null; then try 'the header in C++' as_cxx; else echo 'skipped: no C++ compiler is there'; fi
 if command -v rustc > /dev/null; then try 'from Rust' from_rust; else echo 'skipped: rustc is not there'; fi
