@@ -5,7 +5,8 @@ use Rattle.std.proofs.lemmas.Bool.{cases_lt, le-leb}
 use Rattle.range_core.specs.declared.Mode.{Mode}
 use Rattle.range_core.specs.declared.Span.{Span}
 use Rattle.range_core.specs.Changes.{mode_in}
-use Rattle.range_core.specs.Ranges.{AreRuns, Covers, IsApart, IsByteRange, Modes}
+use Rattle.range_core.specs.Ranges.{AreRuns, IsApart, IsByteRange, Modes}
+use Rattle.owner_runs.specs.Lists.{IsExtent}
 use Rattle.owner_runs.specs.Tests.{ends_from}
 use Rattle.owner_runs.specs.Trees.{AreOrdered}
 use Rattle.owner_runs.proofs.FindLemmas.{next_found}
@@ -73,13 +74,6 @@ last_run (run ∷ other ∷ runs) last ordered is =
       has = rw (above run.1 last.1.last (omega arith)) rest.has;
       behind = λ byte beyond. rw (above run.1 byte (omega arith)) (rest.behind byte beyond);
     }
-
--- the range lies within a file, its first and its last byte have a mode, and no byte outside of it has one
-pub record IsExtent (modes : Modes) (span : Span) : Type 0 where
-  pub range : IsByteRange span
-  pub first : modes span.first ≢ None
-  pub last : modes span.last ≢ None
-  pub outside : (byte : ℕ) → ¬ Covers span byte → modes byte ≡ None
 
 -- it reaches from the first run to the last
 pub extent_between : (runs : List (Mode × Span)) (first last : Mode × Span) → AreOrdered runs → find (ends_from 0) runs ≡ Some first → last_or None runs ≡ Some last

@@ -4,6 +4,7 @@ pub mod CutLemmas
 pub mod ExtentLemmas
 pub mod FindLemmas
 pub mod ForCallers
+pub mod LoneLemmas
 pub mod ModeLemmas
 pub mod OrderLemmas
 pub mod PieceLemmas

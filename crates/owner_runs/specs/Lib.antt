@@ -1,4 +1,5 @@
 pub mod Iterating
 pub mod Lists
+pub mod Lone
 pub mod Tests
 pub mod Trees

@@ -4,6 +4,7 @@
 
 mod cuts;
 mod laws;
+mod lone_run;
 mod owner_runs;
 mod run_tree;
 mod runs;

@@ -1,12 +1,14 @@
 //! A mode for each byte of a file, as a list of runs or as a tree of them.
-ghost use Rattle.std.specs.Prelude.{ℕ, ◌≡◌, ◌≢◌, ◌+◌, ◌<◌, ◌≤◌, ◌↔◌, All, AllPairs, List, None, Some, IfNone, IfSome, IsFalse, IsOk, IsTrue, OnErr, OnOk, length};
+ghost use Rattle.std.specs.Prelude.{ℕ, ◌≡◌, ◌≢◌, ◌+◌, ◌<◌, ◌≤◌, ◌↔◌, All, AllPairs, List, None, Some, IfNone, IfOk, IfSome, IsFalse, IsOk, IsTrue, OnErr, OnOk, length};
 ghost use Rattle.range_core.specs.declared.Mode.{Mode};
 ghost use Rattle.range_core.specs.declared.Span.{Span};
 ghost use Rattle.range_core.specs.Changes.{mode_in, SetsMode, modes_of as list_modes_of, room_of as list_room_of};
 ghost use Rattle.range_core.specs.Ranges.{AreRuns, Covers, HeldConflicts, IsByteRange, IsFirstHit, IsRun, Modes, SplitsRun};
-ghost use Rattle.owner_runs.specs.Lists.{AreTouched, modes_of, room_of, SameRuns};
+ghost use Rattle.owner_runs.specs.Lists.{AreTouched, IsExtent, modes_of, room_of, SameRuns, StandsFor};
 ghost use Rattle.owner_runs.specs.Trees.{AreRunsTouching};
 
+use crate::lone_run::LoneRun;
+use crate::run_tree::RunTree;
 use crate::runs::Runs;
 use crate::set_tree::SetTree;
 use range_core::{Memory, Mode, RangeList, Span};
@@ -17,7 +19,8 @@ const FEW_RUNS: usize = 64;
 
 /// The modes of one lock owner on the bytes of one file, seen as a mode, or none, for each byte.
 ///
-/// It may hold room for further sets, which then can't fail. Beyond 64 runs they are moved into a tree, where there is memory
+/// It may hold room for further sets, which then can't fail. One run, or room for one set and no run, takes no block of memory,
+/// so that of many owners with a lock each every one takes little. Beyond 64 runs they are moved into a tree, where there is memory
 /// for it, by the next set that may want memory anyway: of a mode, an unlock that splits a run, or a reservation. So neither
 /// another unlock nor a set in room that was held asks for any. The tree stays when runs go, since an unlock that made a list
 /// of it would want memory; [`OwnerRuns::clear`] makes a list again, which has no run and so wants none.
@@ -27,11 +30,20 @@ pub struct OwnerRuns {
     alloc: Global,
 }
 
-/// The runs, by rising bytes: the largest ranges that have one mode throughout.
+/// The runs, by rising bytes: the largest ranges that have one mode throughout. A list and a tree are in a box, so that one run
+/// takes no more than its own room.
 #[derive(Drop)]
 enum Kept {
-    Few(RangeList),
-    Many(SetTree),
+    Lone(LoneRun),
+    Few(Box<RangeList>),
+    Many(Box<SetTree>),
+}
+
+/// Runs as they stand.
+#[derive(Drop)]
+enum Standing<'a> {
+    Listed(&'a [(Mode, Span)]),
+    InTree(&'a RunTree),
 }
 
 #[tactic(auto, unfolding(crate::specs::Lists::modes_of, crate::specs::Lists::room_of))]
@@ -42,7 +54,7 @@ impl OwnerRuns {
         ensures room { room_of result ≡ 0 }
     {
         OwnerRuns {
-            kept: Kept::Few(RangeList::new(alloc)),
+            kept: Kept::Lone(LoneRun::nothing()),
             alloc,
         }
     }
@@ -60,6 +72,12 @@ impl OwnerRuns {
     {
         self.ready(span, mode);
         match &mut self.kept {
+            Kept::Lone(lone) => {
+                if !lone.set(span, mode) {
+                    self.kept = Kept::Few(list_with(self.alloc, lone, span, mode)?);
+                }
+                Ok(())
+            }
             Kept::Few(list) => list.set(span, mode),
             Kept::Many(tree) => tree.set(span, mode),
         }
@@ -95,7 +113,10 @@ impl OwnerRuns {
         let Kept::Few(list) = &self.kept else {
             return;
         };
-        if let Some(tree) = tree_of(self.alloc, list) {
+        let Some(tree) = tree_of(self.alloc, list) else {
+            return;
+        };
+        if let Ok(tree) = Box::new(self.alloc, tree) {
             self.kept = Kept::Many(tree);
         }
     }
@@ -112,6 +133,12 @@ impl OwnerRuns {
     {
         self.plant();
         match &mut self.kept {
+            Kept::Lone(lone) => {
+                if !lone.hold(sets) {
+                    self.kept = Kept::Few(list_for(self.alloc, lone, sets)?);
+                }
+                Ok(())
+            }
             Kept::Few(list) => list.reserve(sets),
             Kept::Many(tree) => tree.reserve(sets),
         }
@@ -122,6 +149,7 @@ impl OwnerRuns {
         ensures { result ≡ room_of self.now }
     {
         match &self.kept {
+            Kept::Lone(lone) => lone.room(),
             Kept::Few(list) => list.room(),
             Kept::Many(tree) => tree.room,
         }
@@ -135,6 +163,7 @@ impl OwnerRuns {
         ensures room { room_of self.old ≤ room_of self.new + 1 }
     {
         match &mut self.kept {
+            Kept::Lone(lone) => lone.set_reserved(span, mode),
             Kept::Few(list) => list.set_reserved(span, mode),
             Kept::Many(tree) => tree.set_reserved(span, mode),
         }
@@ -145,15 +174,14 @@ impl OwnerRuns {
         ensures modes { (byte : ℕ) → modes_of self.new byte ≡ None }
         ensures room { room_of self.new ≡ room_of self.old }
     {
+        if self.room() == 0 {
+            self.kept = Kept::Lone(LoneRun::nothing());
+            return;
+        }
         match &mut self.kept {
+            Kept::Lone(lone) => lone.clear(),
             Kept::Few(list) => list.clear(),
-            Kept::Many(tree) => {
-                if tree.room == 0 {
-                    self.kept = Kept::Few(RangeList::new(self.alloc));
-                } else {
-                    tree.clear();
-                }
-            }
+            Kept::Many(tree) => tree.clear(),
         }
     }
 
@@ -162,9 +190,9 @@ impl OwnerRuns {
         ensures free { IsTrue result ↔ ((byte : ℕ) → modes_of self.now byte ≡ None) }
         ensures held { IsFalse result → (byte : ℕ) × (mode : Mode) × (modes_of self.now byte ≡ Some mode) }
     {
-        match &self.kept {
-            Kept::Few(list) => list.runs().is_empty(),
-            Kept::Many(tree) => tree.runs.is_empty(),
+        match self.standing() {
+            Standing::Listed(runs) => runs.is_empty(),
+            Standing::InTree(tree) => tree.is_empty(),
         }
     }
 
@@ -172,9 +200,9 @@ impl OwnerRuns {
     pub fn len(&self) -> usize
         ensures { (runs : List (Mode × Span)) × AreRuns (modes_of self.now) runs × All (λ run. IsByteRange run.1) runs × (result ≡ length runs) }
     {
-        match &self.kept {
-            Kept::Few(list) => list.runs().len(),
-            Kept::Many(tree) => tree.runs.count() as usize,
+        match self.standing() {
+            Standing::Listed(runs) => runs.len(),
+            Standing::InTree(tree) => tree.count() as usize,
         }
     }
 
@@ -194,6 +222,7 @@ impl OwnerRuns {
         ensures none { IfNone result ((byte : ℕ) → Covers span byte → ¬ HeldConflicts (modes_of self.now byte) against) }
     {
         match &self.kept {
+            Kept::Lone(lone) => lone.first_hit(span, against),
             Kept::Few(list) => list.first_hit(span, against),
             Kept::Many(tree) => tree.runs.first_hit(span, against),
         }
@@ -207,6 +236,7 @@ impl OwnerRuns {
         ensures none { IfNone result (modes_of self.now byte ≡ None) }
     {
         match &self.kept {
+            Kept::Lone(lone) => lone.run_at(byte),
             Kept::Few(list) => list.run_at(byte),
             Kept::Many(tree) => tree.runs.run_at(byte),
         }
@@ -219,9 +249,9 @@ impl OwnerRuns {
         ensures range { IfSome result IsByteRange }
         ensures none { IfNone result ((byte : ℕ) → modes_of self.now byte ≡ None) }
     {
-        match &self.kept {
-            Kept::Few(list) => extent_of(list),
-            Kept::Many(tree) => tree.runs.extent(),
+        match self.standing() {
+            Standing::Listed(runs) => extent_of(runs),
+            Standing::InTree(tree) => tree.extent(),
         }
     }
 
@@ -230,9 +260,9 @@ impl OwnerRuns {
         ensures runs { AreRuns (modes_of self.now) result }
         ensures ranges { All (λ run. IsByteRange run.1) result }
     {
-        match &self.kept {
-            Kept::Few(list) => Runs::of_list(list.runs()),
-            Kept::Many(tree) => tree.runs.runs(),
+        match self.standing() {
+            Standing::Listed(runs) => Runs::of_list(runs),
+            Standing::InTree(tree) => tree.runs(),
         }
     }
 
@@ -242,11 +272,51 @@ impl OwnerRuns {
         ensures runs { AreRunsTouching (modes_of self.now) span result }
         ensures ranges { All (λ run. IsByteRange run.1) result }
     {
-        match &self.kept {
-            Kept::Few(list) => Runs::of_list(touching(list.runs(), span)),
-            Kept::Many(tree) => tree.runs.touching(span),
+        match self.standing() {
+            Standing::Listed(runs) => Runs::of_list(touching(runs, span)),
+            Standing::InTree(tree) => tree.touching(span),
         }
     }
+
+    /// The runs as they stand, side by side or in a tree.
+    fn standing(&self) -> Standing<'_>
+        ensures { StandsFor (modes_of self.now) result }
+    {
+        match &self.kept {
+            Kept::Lone(lone) => Standing::Listed(lone.runs()),
+            Kept::Few(list) => Standing::Listed(list.runs()),
+            Kept::Many(tree) => Standing::InTree(&tree.runs),
+        }
+    }
+}
+
+/// A list of the run, if there is one, and with its room, in which the mode is set.
+fn list_with(
+    alloc: Global,
+    lone: &LoneRun,
+    span: Span,
+    mode: Option<Mode>,
+) -> Result<Box<RangeList>, Memory>
+    requires { IsByteRange span }
+    ensures modes { IfOk result (λ list. SetsMode (mode_in lone.now.items) (list_modes_of list.value) span mode) }
+    ensures room { IfOk result (λ list. lone.now.room ≤ list_room_of list.value) }
+{
+    let mut list = list_for(alloc, lone, lone.room())?;
+    list.set(span, mode)?;
+    Ok(list)
+}
+
+/// A list of the run, if there is one, with room for so many sets.
+fn list_for(alloc: Global, lone: &LoneRun, sets: usize) -> Result<Box<RangeList>, Memory>
+    ensures modes { IfOk result (λ list. (byte : ℕ) → list_modes_of list.value byte ≡ mode_in lone.now.items byte) }
+    ensures room { IfOk result (λ list. sets ≤ list_room_of list.value) }
+{
+    let mut list = RangeList::new(alloc);
+    if let Some((mode, span)) = lone.run() {
+        list.set(span, Some(mode))?;
+    }
+    list.reserve(sets)?;
+    Ok(Box::new(alloc, list)?)
 }
 
 /// A tree of the runs of this list and with its room, where they are many and there is memory.
@@ -261,14 +331,12 @@ fn tree_of(alloc: Global, list: &RangeList) -> Option<SetTree>
     SetTree::of_runs(alloc, runs, list.room()).ok()
 }
 
-/// From the first byte of the list to the last; `None` where it has none.
-fn extent_of(list: &RangeList) -> Option<Span>
-    ensures some { IfSome result (λ span. (byte : ℕ) → (¬ Covers span byte) → list_modes_of list.now byte ≡ None) }
-    ensures ends { IfSome result (λ span. (list_modes_of list.now span.first ≢ None) × (list_modes_of list.now span.last ≢ None)) }
-    ensures range { IfSome result IsByteRange }
-    ensures none { IfNone result ((byte : ℕ) → list_modes_of list.now byte ≡ None) }
+/// From the first byte of the runs to the last; `None` where there is none.
+fn extent_of(runs: &[(Mode, Span)]) -> Option<Span>
+    requires { All (λ run. IsByteRange run.1) runs.now }
+    ensures extent { (modes : Modes) → AreRuns modes runs.now → IfSome result (IsExtent modes) }
+    ensures none { (modes : Modes) → AreRuns modes runs.now → IfNone result ((byte : ℕ) → modes byte ≡ None) }
 {
-    let runs = list.runs();
     let first = runs.first()?;
     let last = runs.last()?;
     Some(Span {

@@ -407,3 +407,42 @@ fn from_where_to_where_a_tree_reaches(rt: HostRuntime) -> Result<(), Fail> {
     )?;
     Ok(())
 }
+
+/// One run alone grows by what touches it, is cut at its ends, goes for a longer one, and is split at last.
+#[test]
+fn one_run_alone(rt: HostRuntime) -> Result<(), Fail> {
+    let mut runs = OwnerRuns::new(rt.alloc());
+    let (read, write) = (Some(Mode::Read), Some(Mode::Write));
+    each_reaches(
+        &rt,
+        &mut runs,
+        &[
+            (bytes(10, 19), read, Some(bytes(10, 19))),
+            (bytes(20, 24), read, Some(bytes(10, 24))),
+            (bytes(5, 9), read, Some(bytes(5, 24))),
+            (bytes(0, 5), None, Some(bytes(6, 24))),
+            (bytes(24, 30), None, Some(bytes(6, 23))),
+            (bytes(40, 50), None, Some(bytes(6, 23))),
+            (bytes(0, 40), write, Some(bytes(0, 40))),
+        ],
+    )?;
+    assert_eq!(rt; runs.len(), 1);
+    assert_eq!(rt; runs.run_at(0), Some((Mode::Write, bytes(0, 40))));
+    set(&rt, &mut runs, bytes(10, 10), None)?;
+    assert_eq!(rt; runs.len(), 2);
+    assert_eq!(rt; runs.run_at(11), Some((Mode::Write, bytes(11, 40))));
+    Ok(())
+}
+
+/// Room for one set, held where there is no run, makes one run.
+#[test]
+fn one_run_in_room_that_was_held(rt: HostRuntime) -> Result<(), Fail> {
+    let mut runs = OwnerRuns::new(rt.alloc());
+    runs.reserve(1)?;
+    assert_eq!(rt; runs.room(), 1);
+    set_held(&rt, &mut runs, bytes(3, 4), Some(Mode::Write));
+    assert_eq!(rt; runs.run_at(4), Some((Mode::Write, bytes(3, 4))));
+    runs.clear();
+    assert!(rt; runs.is_empty());
+    Ok(())
+}
