@@ -130,8 +130,8 @@ owner_by x y other of b l (inl e) =
 owner_by x y other of b l (inr (inl k)) = omega arith
 owner_by x y other of b l (inr (inr e)) = not_both_before other (holder_of x) b (subst (λ (h : Holder). IsBeforeHolder (holder_of x) h) of e.1)
 
--- where the first run that blocks begins behind the range's first byte, it is its first byte and its owner that are the first in the way
-pub first_begins : (modes : HolderModes) (holder : Holder) (span : Span) (wanted : Mode) (run : Run) (runs : List Run) → AreRunsOf modes runs → AreOrdered runs → find (blocks holder span wanted) runs ≡ Some run → span.first < run.span.first
+-- where the first run that blocks begins no earlier than the range, it is its first byte and its owner that are the first in the way
+pub first_begins : (modes : HolderModes) (holder : Holder) (span : Span) (wanted : Mode) (run : Run) (runs : List Run) → AreRunsOf modes runs → AreOrdered runs → find (blocks holder span wanted) runs ≡ Some run → span.first ≤ run.span.first
     → IsFirstInTheWay modes holder span wanted run.span.first (holder_of run)
 first_begins modes holder span wanted run runs of s i l =
     let found = is_found (blocks holder span wanted) run runs s i in

@@ -1,7 +1,7 @@
 -- A run that stands among others, and the others without it.
-use Rattle.interval_index.proofs.Common.{◌≡◌, ℕ, ◌<◌, ◌≤◌, Bool, true, false, not, cond, ◌&&◌, ◌||◌, Option, Some, None, List, [], ◌∷◌, ◌++◌, refl, sym, ap, ◌∙◌, arith, nat_tests, AllByRecursion, list_any, Holder, Run, holder_of, is_same_holder, is_by, has_by, conflicts_with, leb}
+use Rattle.interval_index.proofs.Common.{◌≡◌, ℕ, ◌≤◌, Bool, true, false, not, cond, ◌&&◌, ◌||◌, Option, Some, None, List, [], ◌∷◌, ◌++◌, refl, sym, ap, ◌∙◌, arith, nat_tests, AllByRecursion, list_any, Holder, Run, holder_of, is_same_holder, is_by, has_by, conflicts_with, leb}
 use Rattle.std.proofs.Common.{append-nil, ltb}
-use Rattle.range_core.specs.declared.Mode.TheVariants.{Read, Write}
+use Rattle.range_core.specs.declared.Mode.TheVariants.{Read}
 use Rattle.interval_index.specs.declared.reach.Reach.{Reach}
 use Rattle.interval_index.specs.declared.reach.Reaches.{Reaches}
 use Rattle.interval_index.specs.declared.least.Least.{Least}
@@ -55,6 +55,13 @@ told_moved reaches front back run h = record {
   writes = of_moved _ reaches.writes front back run h.writes;
   least = least_moved reaches.least front back run h.least;
 }
+
+any_end : (p : Run → Bool) (runs : List Run) (run : Run) → list_any p (runs ++ run ∷ []) ≡ (list_any p runs || p run)
+any_end p runs run = any_among p runs [] run ∙ ap (λ others. list_any p others || p run) (append-nil runs)
+
+-- where the run passes only if another one does, some pass with it as without it
+any_with : (p : Run → Bool) (runs : List Run) (run : Run) → (p run ≡ true → list_any p runs ≡ true) → list_any p runs ≡ list_any p (runs ++ run ∷ [])
+any_with p runs run h = absorbed (list_any p runs) (p run) h ∙ sym (any_end p runs run)
 
 -- where the run passes only if another one does, the others pass as all do
 any_left : (p : Run → Bool) (front back : List Run) (run : Run) → (p run ≡ true → list_any p (front ++ back) ≡ true) → list_any p (front ++ run ∷ back) ≡ list_any p (front ++ back)
@@ -202,3 +209,58 @@ told_without reaches front back run told stays =
       writes = writes_without reaches.writes front back run (conflicts_with Read run.mode) refl two.1 told.writes;
       least = least_without reaches.least front back run told.least four.0 four.1;
     }
+
+-- another owner's run that is kept reaches as far as the run does, whoever asks
+farther_of : (kept : Run → Bool) (reach : Reach) (runs : List Run) (run : Run) (o : Option ℕ) → cond (is_same_holder (holder_of run) reach.holder) reach.last reach.other ≡ o → is_beyond o run.span.last ≡ true
+    → TellsOf kept reach runs → (holder : Holder) (byte : ℕ) → (kept run && is_others_from holder byte run) ≡ true → list_any (λ other. kept other && is_others_from holder byte other) runs ≡ true
+farther_of kept reach runs run None is h told holder byte passes = absurd (let no : false ≡ true = h in cc)
+farther_of kept reach runs run (Some far) is h told holder byte passes =
+    let its = and_both (kept run) (is_others_from holder byte run) passes in
+    let parts = and_both (not (is_same_holder holder (holder_of run))) (leb byte run.span.last) its.1 in
+    any_weaker (λ other. kept other && is_others_from holder far other) (λ other. kept other && is_others_from holder byte other) runs
+    (λ other is_far.
+    let k = and_both (kept other) (is_others_from holder far other) is_far in
+    let o = and_both (not (is_same_holder holder (holder_of other))) (leb far other.span.last) k.1 in
+    both_and (kept other) (is_others_from holder byte other) k.0
+    (both_and (not (is_same_holder holder (holder_of other))) (leb byte other.span.last) o.0 (farther_too byte run.span.last far other.span.last parts.1 h o.1)))
+    (sym (told.exact holder far) ∙ reached_by_others reach holder (holder_of run) far (is_same_holder (holder_of run) reach.holder) refl told.falls is (not_so (is_same_holder holder (holder_of run)) parts.0))
+
+-- what is told of runs is told of them with one that others outlast
+pub of_with : (kept : Run → Bool) (reach : Reach) (runs : List Run) (run : Run) → TellsOf kept reach runs → outlasts reach run ≡ true → TellsOf kept reach (runs ++ run ∷ [])
+of_with kept reach runs run told far = record {
+  falls = told.falls;
+  exact = λ holder byte. told.exact holder byte ∙ any_with (λ other. kept other && is_others_from holder byte other) runs run (farther_of kept reach runs run _ refl far told holder byte);
+}
+
+-- another owner comes no later than the run's
+earlier_than : (least : Least) (runs : List Run) (run : Run) (o : Option Holder) (holder bound : Holder) → other_than holder least.holder least.other ≡ o → is_before o (holder_of run) ≡ true
+    → TellsLeast least runs → is_others_by holder bound run ≡ true → list_any (is_others_by holder bound) runs ≡ true
+earlier_than least runs run None holder bound is h told passes = absurd (let no : false ≡ true = h in cc)
+earlier_than least runs run (Some first) holder bound is h told passes =
+    let later = not_so (is_by (holder_of run) first) h in
+    let its = and_both (not (is_same_holder holder (holder_of run))) (is_by (holder_of run) bound) passes in
+    any_weaker (is_others_by holder first) (is_others_by holder bound) runs
+    (λ other by.
+    let o = and_both (not (is_same_holder holder (holder_of other))) (is_by (holder_of other) first) by in
+    both_and (not (is_same_holder holder (holder_of other))) (is_by (holder_of other) bound) o.0
+    (by_through (holder_of other) first bound o.1 (by_through first (holder_of run) bound (by_either (holder_of run) first later) its.1)))
+    (sym (told.exact holder first) ∙ (ap (λ e. has_by e first) is ∙ by_itself first))
+
+all_with : (P : Run → Type 0) (runs : List Run) (run : Run) → AllByRecursion P runs → P run → AllByRecursion P (runs ++ run ∷ [])
+all_with P [] run h its = (its, tt)
+all_with P (first ∷ runs) run h its = (h.0, all_with P runs run h.1 its)
+
+-- the least owners of runs are those with a run before whose owner two come
+pub least_with : (least : Least) (runs : List Run) (run : Run) → TellsLeast least runs → precedes least run ≡ true → TellsLeast least (runs ++ run ∷ [])
+least_with least runs run told before =
+    let ends = and_both (ltb least.last run.span.last) _ before in
+    let owners = and_both (is_before least.holder (holder_of run)) (is_before least.other (holder_of run)) ends.1 in
+    record {
+      last = all_with (λ other. least.last ≤ other.span.last) runs run told.last (ends_later least.last run.span.last ends.0);
+      falls = told.falls;
+      exact = λ holder bound. told.exact holder bound
+          ∙ any_with (is_others_by holder bound) runs run (earlier_than least runs run _ holder bound refl (before_all holder (holder_of run) least.holder least.other owners.0 owners.1) told);
+    }
+  where
+    ends_later : (last other : ℕ) → ltb last other ≡ true → last ≤ other
+    ends_later last other h = grind (arith, nat_tests)

@@ -116,8 +116,8 @@ impl RunIndex {
         // The proof reads the order of the runs from the field.
         let _ = &self.runs;
         let run = self.first(holder, span, wanted)?;
-        // None of the runs that begin before this one reaches it.
-        if span.first < run.span.first {
+        // No run that comes before this one reaches its first byte, and those that begin there too are of later owners.
+        if span.first <= run.span.first {
             return Some(in_the_way(run.span.first, run.holder(), run));
         }
         let query = Reaching {

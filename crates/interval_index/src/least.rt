@@ -95,6 +95,15 @@ impl Least {
         }
     }
 
+    /// One run more. Where two owners come before its owner, and some run may end before it, there is nothing to tell of it.
+    pub(crate) fn add(&mut self, run: &Run)
+        ensures { (runs : List Run) → TellsLeast self.old runs → TellsLeast self.new (runs ++ run.now ∷ []) }
+    {
+        if !self.precedes(run) {
+            self.append(Least::of(run));
+        }
+    }
+
     /// Whether two owners come before the run's, and some run may end before it.
     pub(crate) fn precedes(&self, run: &Run) -> bool
         ensures { result ≡ precedes self.now run.now }

@@ -51,8 +51,7 @@ fn is_as_late(last: Option<u64>, other: Option<u64>) -> bool
 impl Reach {
     /// That of no run.
     fn nobody() -> Reach
-        ensures empty { (kept : Run → Bool) → TellsOf kept result [] }
-        ensures left_out { (kept : Run → Bool) (run : Run) → kept run ≡ false → TellsOf kept result (run ∷ []) }
+        ensures { (kept : Run → Bool) → TellsOf kept result [] }
     {
         Reach {
             holder: Holder {
@@ -88,6 +87,15 @@ impl Reach {
             self.other = later(more.other, self.last);
             self.last = more.last;
             self.holder = more.holder;
+        }
+    }
+
+    /// One run more, wherever it stands. Where others outlast it there is nothing to tell of it.
+    fn add(&mut self, run: &Run)
+        ensures { (kept : Run → Bool) (runs : List Run) → kept run.now ≡ true → TellsOf kept self.old runs → TellsOf kept self.new (runs ++ run.now ∷ []) }
+    {
+        if !self.outlasts(run) {
+            self.append(Reach::of(run));
         }
     }
 
@@ -146,14 +154,12 @@ impl Reaches {
     fn note(&mut self, run: &Run)
         ensures { (runs : List Run) → Tells self.old runs → Tells self.new (runs ++ run.now ∷ []) }
     {
-        let reach = Reach::of(run);
-        let writes = match run.mode {
-            Mode::Read => Reach::nobody(),
-            Mode::Write => reach,
-        };
-        self.all.append(reach);
-        self.writes.append(writes);
-        self.least.append(Least::of(run));
+        self.all.add(run);
+        self.least.add(run);
+        match run.mode {
+            Mode::Read => {}
+            Mode::Write => self.writes.add(run),
+        }
     }
 }
 

@@ -3,6 +3,7 @@ use Rattle.lock_book.proofs.Common.{Bool, ℕ, ◌⊎◌, inl, inr, ◌≡◌, �
 use Rattle.std.specs.Prelude.{OnOk, OnErr}
 use Rattle.std.proofs.lemmas.Bool.{false_from_ne_true}
 use Rattle.range_core.specs.Changes.{SetsMode}
+use Rattle.range_core.specs.Ranges.{Modes}
 use Rattle.lock_book.specs.declared.book.index.OwnersIndex.{OwnersIndex}
 use Rattle.lock_book.specs.OwnerLists.{AreInUse}
 use Rattle.lock_book.specs.Indexing.{AreIndexed, IsKeptWhere, IsKeptAs, IsKeptOutside, IsKeptWithout}
@@ -13,6 +14,13 @@ use Rattle.lock_book.proofs.IndexedLemmas.{AreRunsWhere-cleared, AreRunsWhere-ou
 -- a byte outside a range isn't tested to lie in it
 not_covered : (span : Span) (byte : ℕ) → ¬ Covers span byte → is_covered span byte ≡ false
 not_covered span byte free = false_from_ne_true _ (λ test. free (grind (arith, nat_tests), grind (arith, nat_tests)))
+
+-- a set of the mode that each byte of the range has already changes nothing
+pub already_set : (modes : Modes) (span : Span) (mode : Option Mode) → ((byte : ℕ) → Covers span byte → modes byte ≡ mode) → SetsMode modes modes span mode
+already_set modes span mode has byte = elim (cases_Bool (is_covered span byte)) [
+  | inl there ↦ has byte (grind (arith, nat_tests, there), grind (arith, nat_tests, there)) ∙ sym (ap (λ b. cond b mode (modes byte)) there)
+  | inr apart ↦ sym (ap (λ b. cond b mode (modes byte)) apart)
+]
 
 cases_owner : (owner other : Owner) → (owner ≡ other) ⊎ (other ≢ owner)
 cases_owner owner other = elim (cases_Bool (is_same_owner owner other)) [

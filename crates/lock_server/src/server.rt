@@ -102,7 +102,10 @@ impl LockServer {
             .set(&mut self.table, &self.openings, file, owner, span, mode)?;
         self.table.settle_among(policy, file, freed);
         self.table.sweep(file);
-        self.holdings.tidy(&self.table, &self.openings, owner, file);
+        // Behind a lock the owner has something there.
+        let unlocked = mode.is_none().then_some(owner);
+        self.holdings
+            .tidy_of(&self.table, &self.openings, unlocked, file);
         Ok(Answer::Done)
     }
 

@@ -1,6 +1,7 @@
 //! Setting, reserving and releasing byte locks.
-ghost use Rattle.std.specs.Prelude.{◌≡◌, ◌≤◌, ◌+◌, ◌↔◌, None, IsTrue, IsOk, OnOk, OnErr};
-ghost use Rattle.range_core.specs.Ranges.{IsByteRange, SplitsRun};
+ghost use Rattle.std.specs.Prelude.{ℕ, ◌≡◌, ◌≤◌, ◌+◌, ◌↔◌, None, IsTrue, IsOk, OnOk, OnErr};
+ghost use Rattle.range_core.specs.Ranges.{Covers, IsByteRange, SplitsRun};
+ghost use Rattle.owner_runs.specs.Lists.{modes_of};
 ghost use Rattle.lock_book.specs.OwnerLists.{IsIdle};
 ghost use Rattle.lock_book.specs.Books.{byte_modes_of, room_in, ClearsOwner, ReleasesOwner, SameBook, SameButRoom, SetsOwnerMode};
 
@@ -24,6 +25,10 @@ impl Book {
         self.index.prepare_set(self.alloc, &self.owners, mode);
         match self.owners.get_mut(owner) {
             Some(list) => {
+                // A lock that is set again changes nothing: its runs stay in the index.
+                if has_already(list, span, mode) {
+                    return Ok(());
+                }
                 self.index.take_out(owner, list, span);
                 if let Err(refused) = list.set(span, mode) {
                     // The list is as it was: the runs that were taken out go in again.
@@ -131,6 +136,17 @@ impl Book {
             }
             None => {}
         }
+    }
+}
+
+/// Whether the list has the mode on each byte of the span already; of an unlock it isn't said.
+fn has_already(list: &OwnerRuns, span: Span, mode: Option<Mode>) -> bool
+    requires { IsByteRange span }
+    ensures { IsTrue result → (byte : ℕ) → Covers span byte → modes_of list.now byte ≡ mode }
+{
+    match (mode, list.run_at(span.first)) {
+        (Some(mode), Some((held, run))) => held == mode && span.last <= run.last,
+        _ => false,
     }
 }
 

@@ -1,12 +1,12 @@
 use Rattle.lock_book.proofs.Common.{common_steps, ◌≡◌, ◌∙◌, ap, sym, subst, true, refl, Some, None, Option, arith, if◌then◌else◌, Mode, is_covered, modes_of, OwnerRuns, modes_in_list, byte_modes_of}
 use Rattle.range_core.specs.Ranges.{SplitsRun}
 use Rattle.lock_book.proofs.BookLemmas.{room_kept, list_of-not_lent, list_written, PutsAt-adds, PutsAt-removes, PutsList-puts, SetsOwnerMode-puts, SetsOwnerMode-nothing, SameBook-puts, none_from_test, in_use_by_mode, still_in_use}
-use Rattle.lock_book.proofs.KeptLemmas.{AreKept-left, AreKept-list, AreKept-removed, indexed_added, indexed_set, found_added, indexed_again, PutsIn}
+use Rattle.lock_book.proofs.KeptLemmas.{AreKept-left, AreKept-list, AreKept-removed, already_set, indexed_added, indexed_set, found_added, indexed_again, kept_same, PutsIn}
 use Rattle.std.proofs.lemmas.Bool.{false≢true}
 use Rattle.lock_book.proofs.book.Book.set.Goals as goal
 
-pub invariant_of-self : goal.invariant_of-self
-invariant_of-self c =
+pub invariant_of-self-in-Err : goal.invariant_of-self-in-Err
+invariant_of-self-in-Err c =
     let book = c.args.self.now in
     let list = c.set.new.self in
     let owners = c.get_mut.follows.lender list in
@@ -124,3 +124,31 @@ returns-else-is_idle-clause-room c =
     let owners = c.get_mut.follows.lender list in
     let written = list_written book owners c.args.owner _ _ list c.get_mut.ensures.value c.in-Some.is (c.get_mut.follows.holds list) in
     room_kept book _ c.args.owner c.in-Some.list.now list (PutsList-puts book _ _ _ refl written.1) written.0 c.in_default.ensures.room
+
+pub invariant_of-self : goal.invariant_of-self
+invariant_of-self c =
+    let book = c.args.self.now in
+    let list = c.in-Some.list.now in
+    let owners = c.get_mut.follows.lender list in
+    let written = list_written book owners c.args.owner _ _ list c.get_mut.ensures.value c.in-Some.is (c.get_mut.follows.holds list) in
+    let kept = AreKept-list c.prepare_set.new.self book owners c.args.owner list written.1
+    (still_in_use book c.args.owner list list written.0 (λ byte. refl) (omega arith))
+    (kept_same book owners c.args.owner (Some list) written.1 c.prepare_set.new.self (Some list) written.0 (λ byte. refl) c.prepare_set.ensures) in
+    record { in_use = kept.in_use; indexed = kept.indexed }
+
+pub returns-then-has_already-clause-ok : goal.returns-then-has_already-clause-ok
+returns-then-has_already-clause-ok c =
+    let book = c.args.self.now in
+    let list = c.in-Some.list.now in
+    let owners = c.get_mut.follows.lender list in
+    let written = list_written book owners c.args.owner _ _ list c.get_mut.ensures.value c.in-Some.is (c.get_mut.follows.holds list) in
+    SetsOwnerMode-puts book _ c.args.owner (Some list) (Some list) _ _ (PutsList-puts book _ _ _ refl written.1) written.0
+    (already_set (modes_of list) c.args.span c.args.mode (c.has_already.ensures c.if-has_already.true))
+
+pub returns-then-has_already-clause-room : goal.returns-then-has_already-clause-room
+returns-then-has_already-clause-room c =
+    let book = c.args.self.now in
+    let list = c.in-Some.list.now in
+    let owners = c.get_mut.follows.lender list in
+    let written = list_written book owners c.args.owner _ _ list c.get_mut.ensures.value c.in-Some.is (c.get_mut.follows.holds list) in
+    room_kept book _ c.args.owner list list (PutsList-puts book _ _ _ refl written.1) written.0 (omega arith)

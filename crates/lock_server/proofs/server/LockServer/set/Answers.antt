@@ -1,5 +1,5 @@
 use Rattle.lock_server.proofs.Common.{◌∙◌, Bytes, given_by, through_at, rules_of, state_of, table_state}
-use Rattle.lock_server.proofs.HoldingLemmas.{kept_rested, kept_tidied}
+use Rattle.lock_server.proofs.HoldingLemmas.{kept_rested, kept_tidied_if}
 use Rattle.lock_server.proofs.ServerLemmas.{changes_at_rest, moves_set, safe_rested, safe_same, set_done, swept}
 use Rattle.lock_server.proofs.SweptLemmas.{all_swept_but}
 use Rattle.lock_server.proofs.KnownLemmas.{settled_known}
@@ -27,7 +27,7 @@ invariant_of-self-2 c =
       swept = all_swept_but table c.sweep.new.self c.args.file
           (λ other differs. c.sweep.ensures.others other differs ∙ c.settle_among.ensures.others other differs ∙ c.set.ensures.others other differs)
           c.sweep.ensures.gone c.args.self.now.swept;
-      kept = kept_tidied c.set.new.self c.tidy.new.self (table_state c.sweep.new.self) (through_at c.args.self.now.openings) c.args.owner c.args.file c.tidy.ensures
+      kept = kept_tidied_if c.set.new.self c.tidy_of.new.self (table_state c.sweep.new.self) (through_at c.args.self.now.openings) c.then_some-unlocked.result c.args.file c.tidy_of.ensures
           (kept_rested c.set.new.self (through_at c.args.self.now.openings) _ (table_state c.set.new.table) c.args.file (table_state c.sweep.new.self) rest
           (c.set.ensures.kept c.args.self.now.kept));
     }
