@@ -1,0 +1,41 @@
+-- A map may cross threads where its keys and values may.
+use denote.RattleType.{RattleType}
+use denote.Hole.{as_row}
+use denote.Param.Send.{view_send, IsSend}
+use denote.Param.SendFields.{as_row_send, declared_send}
+use denote.Struct.Field.{row_field}
+use denote.Struct.Tuple.{Tuple, tuple_type}
+use Rattle.std.proofs.Common.{[], ◌∷◌}
+use Rattle.std.proofs.Crossing.{send, Vec-send}
+use Rattle.std.proofs.MapsCrossing.{BTreeMap-send}
+use Rattle.std.specs.declared.cmp.Ord as ord
+use Rattle.std.specs.declared.cmp.PartialEq as eq
+use Rattle.std.specs.declared.cmp.PartialOrd as partial
+use Rattle.std.specs.contracts.alloc.Global as Global
+use Rattle.std.specs.contracts.collections.BTreeMap as BTreeMap
+use Rattle.std.specs.contracts.impls.GlobalAllocator.TheImpl.{ghosts}
+use Rattle.block_map.specs.contracts.block.Block as block
+use Rattle.block_map.specs.contracts.blocks.Blocks as blocks
+use Rattle.block_map.specs.contracts.map.BlockMap as map
+
+module _ (K V : RattleType) (o : ord.Ghosts K.Denot) (e : eq.Ghosts K.Denot) (p : partial.Ghosts K.Denot) (send-K : IsSend K) (send-V : IsSend V) where
+  abbrev block_row : RattleType
+  block_row = block.the_row K V o e p
+
+  entry_send : IsSend (Tuple (K ∷ V ∷ []))
+  entry_send = declared_send (tuple_type (K ∷ V ∷ [])) (as_row_send (row_field K) send-K, (as_row_send (row_field V) send-V, tt))
+
+  block_send : IsSend block_row
+  block_send = search (view_send, declared_send, as_row_send, Vec-send, entry_send, tt) depth 20
+
+  others_send : IsSend (as_row (BTreeMap.the_field K block_row Global.the_row o e p ghosts))
+  others_send =
+      as_row_send (BTreeMap.the_field K block_row Global.the_row o e p ghosts)
+      (BTreeMap-send K block_row o e p send-K block_send)
+
+  blocks_send : IsSend (blocks.the_row K V o e p)
+  blocks_send = search (declared_send, block_send, others_send, as_row_send, send, tt) depth 20
+
+  -- and so may a map of them
+  pub map_send : IsSend (map.the_row K V o e p)
+  map_send = search (view_send, declared_send, as_row_send, blocks_send, tt) depth 20

@@ -1,0 +1,141 @@
+-- What is done in the block of a key is done in all entries.
+use Rattle.std.proofs.Common.{◌≡◌, Bool, true, false, cond, List, [], ◌∷◌, ◌++◌, Option, Some, None, refl, sym, ap, ◌∙◌, subst}
+use Rattle.std.proofs.Common.{Bor, MutBor}
+use Rattle.std.specs.Prelude.{IsSome, OnErr, OnOk, OnSome}
+use Rattle.std.specs.Option.{option_copied, option_copied_mut}
+use Rattle.std.specs.declared.result.Result.{Result}
+use Rattle.std.specs.declared.result.Result.TheVariants.{Ok, Err}
+use Rattle.std.specs.List.{AllByRecursion}
+use Rattle.std.specs.Map.{lookup, remove_entry, set_value}
+use Rattle.std.specs.BTreeMap.{insert_entry, is_at}
+use Rattle.std.specs.Cmp.{IsTotalOrder}
+use Rattle.std.specs.declared.cmp.Ordering.{Ordering}
+use Rattle.block_map.specs.Blocks.{AreParted, AreRising, block_for, bound_for, entries_of, with_block}
+use Rattle.block_map.specs.Kept.{AreInOrder, block_at, entries_in, SetsBlock, SetsValue, SameBlocks}
+use Rattle.block_map.specs.declared.blocks.Blocks.{Blocks}
+use Rattle.block_map.proofs.Edits.{insert_edit, remove_edit, set_edit}
+use Rattle.block_map.proofs.Parts.{edited, IsEditAt, looked_up}
+use Rattle.block_map.proofs.Placed.{is_behind, is_first, IsLike}
+use Rattle.block_map.proofs.Rising.{insert_rises, keys_inserted, keys_removed, keys_set, remove_rises, set_rises}
+
+-- the fact holds where there is one
+pub told : {A : Type 0} {P : Type 0} (lent : Option A) (x : A) → lent ≡ Some x → OnSome lent P → P
+told None x is fact = absurd (let no : None ≡ Some x = is in cc)
+told (Some y) x is fact = fact
+
+pub on_ok : {A E : Type 0} {P Q : Type 0} (result : Result A E) → (P → Q) → OnOk result P → OnOk result Q
+on_ok (Ok x) follows fact = follows fact
+on_ok (Err e) follows fact = tt
+
+pub on_err : {A E : Type 0} {P Q : Type 0} (result : Result A E) → (P → Q) → OnErr result P → OnErr result Q
+on_err (Ok x) follows fact = tt
+on_err (Err e) follows fact = follows fact
+
+-- what holds either way holds
+pub either_way : {A E : Type 0} {P : Type 0} (result : Result A E) → OnOk result P → OnErr result P → P
+either_way (Ok x) ok err = ok
+either_way (Err e) ok err = err
+
+-- there is one where one is shown
+pub is_lent : {A : Type 0} (lent : Option (Bor A)) (shown : Option A) → option_copied lent ≡ shown → ¬ (shown ≡ None) → IsSome lent
+is_lent None shown is some = absurd (some (sym is))
+is_lent (Some x) shown is some = refl
+
+pub is_lent_mut : {A : Type 0} (lent : Option (MutBor A)) (shown : Option A) → option_copied_mut lent ≡ shown → ¬ (shown ≡ None) → IsSome lent
+is_lent_mut None shown is some = absurd (some (sym is))
+is_lent_mut (Some x) shown is some = refl
+
+-- an entry that is given its own value stays
+pub set_same : {K Y : Type 0} (test : K → Bool) (es : List (K × Y)) (value : Y) → lookup test es ≡ Some value → set_value test es value ≡ es
+set_same test [] value found = refl
+set_same test (e ∷ es) value found = at (test e.0) found (set_same test es value)
+  where
+    at : (b : Bool) → cond b (Some e.1) (lookup test es) ≡ Some value → (lookup test es ≡ Some value → set_value test es value ≡ es) → cond b ((e.0, value) ∷ es) (e ∷ set_value test es value) ≡ e ∷ es
+    at true is rest = let eq : e.1 ≡ value = (let q : Some e.1 ≡ Some value = is in cc) in ap (λ v. (e.0, v) ∷ es) (sym eq)
+    at false is rest = ap (λ fs. e ∷ fs) (rest is)
+
+module _ {K X : Type 0} {cmp : K → K → Ordering} (o : IsTotalOrder cmp) where
+  -- the block behind the key's bound is the key's
+  placed : (key : K) (blocks : Blocks K X) (bound : Option K) → AreParted cmp blocks.first blocks.others.entries → bound ≡ bound_for cmp key blocks.others.entries
+      → block_at cmp bound blocks ≡ Some (block_for cmp key blocks.first blocks.others.entries)
+  placed key blocks None parted is = ap Some (sym (is_first o key [] blocks.first blocks.others.entries parted (sym is)).block)
+  placed key blocks (Some bound) parted is = (is_behind o key bound [] blocks.first blocks.others.entries parted (sym is)).block
+
+  -- so there is one
+  pub is_there : (key : K) (blocks : Blocks K X) (bound : Option K) → AreParted cmp blocks.first blocks.others.entries → bound ≡ bound_for cmp key blocks.others.entries → ¬ (block_at cmp bound blocks ≡ None)
+  is_there key blocks bound parted is none = let no : None ≡ Some (block_for cmp key blocks.first blocks.others.entries) = sym none ∙ placed key blocks bound parted is in cc
+
+  its_block : (key : K) (blocks : Blocks K X) (bound : Option K) (block : List (K × X)) → AreParted cmp blocks.first blocks.others.entries → bound ≡ bound_for cmp key blocks.others.entries
+      → block_at cmp bound blocks ≡ Some block → block ≡ block_for cmp key blocks.first blocks.others.entries
+  its_block key blocks bound block parted is at = let eq : Some block ≡ Some (block_for cmp key blocks.first blocks.others.entries) = sym at ∙ placed key blocks bound parted is in cc
+
+  -- a look-up in the key's block finds what one in all entries does
+  pub looked_in : (key : K) (blocks : Blocks K X) (bound : Option K) (block : List (K × X)) → AreParted cmp blocks.first blocks.others.entries → bound ≡ bound_for cmp key blocks.others.entries
+      → block_at cmp bound blocks ≡ Some block → lookup (is_at (cmp key)) block ≡ lookup (is_at (cmp key)) (entries_in blocks)
+  looked_in key blocks bound block parted is at =
+      ap (lookup (is_at (cmp key))) (its_block key blocks bound block parted is at) ∙ sym (looked_up o key blocks.first blocks.others.entries parted)
+
+  put_back : (key : K) (old new : Blocks K X) (bound : Option K) (es : List (K × X)) → AreParted cmp old.first old.others.entries → bound ≡ bound_for cmp key old.others.entries
+      → IsLike key (block_for cmp key old.first old.others.entries) es → SetsBlock cmp bound old new es
+      → (entries_in new ≡ with_block cmp key es old.first old.others.entries) × AreParted cmp new.first new.others.entries
+  put_back key old new None es parted is like sets =
+      let at = is_first o key es old.first old.others.entries parted (sym is) in (
+        ap (λ first. first ++ entries_of new.others.entries) sets.0 ∙ (ap (λ blocks. es ++ entries_of blocks) sets.1 ∙ sym at.changed),
+        subst (λ first. AreParted cmp first new.others.entries) (sym sets.0)
+            (subst (λ blocks. AreParted cmp es blocks) (sym sets.1) (at.parted (λ P its all. like P its (subst (λ block. AllByRecursion (λ e. P e.0) block) (sym at.block) all)))),
+      )
+  put_back key old new (Some bound) es parted is like sets =
+      let at = is_behind o key bound es old.first old.others.entries parted (sym is) in (
+        ap (λ first. first ++ entries_of new.others.entries) sets.0 ∙ (ap (λ blocks. old.first ++ entries_of blocks) sets.1 ∙ sym at.changed),
+        subst (λ first. AreParted cmp first new.others.entries) (sym sets.0) (subst (λ blocks. AreParted cmp old.first blocks) (sym sets.1) (at.parted like)),
+      )
+
+  -- an edit of the key's block is one of all entries
+  edited_in : (key : K) (edit : List (K × X) → List (K × X)) → IsEditAt o key edit → (old new : Blocks K X) (bound : Option K) (block : List (K × X)) → AreParted cmp old.first old.others.entries
+      → bound ≡ bound_for cmp key old.others.entries → block_at cmp bound old ≡ Some block → IsLike key block (edit block) → SetsBlock cmp bound old new (edit block)
+      → (entries_in new ≡ edit (entries_in old)) × AreParted cmp new.first new.others.entries
+  edited_in key edit is old new bound block parted for at like sets =
+      let its = its_block key old bound block parted for at in
+      let back = put_back key old new bound (edit block) parted for (λ P its' all. like P its' (subst (λ es. AllByRecursion (λ e. P e.0) es) (sym its) all)) sets in
+      (back.0 ∙ (ap (λ es. with_block cmp key (edit es) old.first old.others.entries) its ∙ sym (edited o key edit is old.first old.others.entries parted)), back.1)
+
+  -- a value that is set there
+  pub set_in : (key : K) (value : X) (old new : Blocks K X) (bound : Option K) (block : List (K × X)) → AreInOrder cmp old → bound ≡ bound_for cmp key old.others.entries
+      → block_at cmp bound old ≡ Some block → SetsBlock cmp bound old new (set_value (is_at (cmp key)) block value) → SetsValue cmp key old new value
+  set_in key value old new bound block order for at sets =
+      let done = edited_in key (λ es. set_value (is_at (cmp key)) es value) (set_edit o key value) old new bound block order.1 for at
+      (λ P its all. keys_set P (is_at (cmp key)) block value all) sets in
+      (done.0, (subst (AreRising cmp) (sym done.0) (set_rises cmp (is_at (cmp key)) (entries_in old) value order.0), done.1))
+
+  -- an entry that comes
+  pub insert_in : (key : K) (value : X) (old new : Blocks K X) (bound : Option K) (block : List (K × X)) → AreInOrder cmp old → bound ≡ bound_for cmp key old.others.entries
+      → block_at cmp bound old ≡ Some block → SetsBlock cmp bound old new (insert_entry cmp block key value)
+      → (entries_in new ≡ insert_entry cmp (entries_in old) key value) × AreInOrder cmp new
+  insert_in key value old new bound block order for at sets =
+      let done = edited_in key (λ es. insert_entry cmp es key value) (insert_edit o key value) old new bound block order.1 for at
+      (λ P its all. keys_inserted P cmp block key value its all) sets in
+      (done.0, (subst (AreRising cmp) (sym done.0) (insert_rises o (entries_in old) key value order.0), done.1))
+
+  -- and one that goes
+  pub remove_in : (key : K) (old new : Blocks K X) (bound : Option K) (block : List (K × X)) → AreInOrder cmp old → bound ≡ bound_for cmp key old.others.entries
+      → block_at cmp bound old ≡ Some block → SetsBlock cmp bound old new (remove_entry (is_at (cmp key)) block)
+      → (entries_in new ≡ remove_entry (is_at (cmp key)) (entries_in old)) × AreInOrder cmp new
+  remove_in key old new bound block order for at sets =
+      let done = edited_in key (λ es. remove_entry (is_at (cmp key)) es) (remove_edit o key) old new bound block order.1 for at
+      (λ P its all. keys_removed P (is_at (cmp key)) block all) sets in
+      (done.0, (subst (AreRising cmp) (sym done.0) (remove_rises cmp (is_at (cmp key)) (entries_in old) order.0), done.1))
+
+  -- a block that is given its own entries stays
+  pub same_blocks : (old new : Blocks K X) (bound : Option K) (block : List (K × X)) → block_at cmp bound old ≡ Some block → SetsBlock cmp bound old new block → SameBlocks old new
+  same_blocks old new None block at sets = (sets.0 ∙ (let eq : Some old.first ≡ Some block = at in cc), sets.1)
+  same_blocks old new (Some bound) block at sets = (sets.0, sets.1 ∙ set_same (is_at (cmp bound)) old.others.entries block at)
+
+  -- the same blocks have the same entries, in order
+  pub same_entries : (old new : Blocks K X) → SameBlocks old new → entries_in new ≡ entries_in old
+  same_entries old new same = ap (λ first. first ++ entries_of new.others.entries) same.0 ∙ ap (λ blocks. old.first ++ entries_of blocks) same.1
+
+  pub same_order : (old new : Blocks K X) → SameBlocks old new → AreInOrder cmp old → AreInOrder cmp new
+  same_order old new same order = (
+    subst (AreRising cmp) (sym (same_entries old new same)) order.0,
+    subst (λ first. AreParted cmp first new.others.entries) (sym same.0) (subst (λ blocks. AreParted cmp old.first blocks) (sym same.1) order.1),
+  )

@@ -1,0 +1,11 @@
+pub mod Crossing
+pub mod Edits
+pub mod First
+pub mod Found
+pub mod Kept
+pub mod Parts
+pub mod Placed
+pub mod Ranges
+pub mod Rising
+pub mod Splits
+pub mod Updates

@@ -1,0 +1,4 @@
+pub mod Blocks
+pub mod Kept
+pub mod Lending
+pub mod Updates

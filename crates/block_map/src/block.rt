@@ -1,0 +1,193 @@
+//! Entries that lie side by side.
+ghost use Rattle.std.specs.Prelude.{◌≡◌, ◌^◌, ◌<◌, ◌≤◌, [], IfSome, IfOk, OnErr, OnOk, length, take, drop, true, ◌↔◌, MatchResult};
+ghost use Rattle.std.specs.Borrow.{sem};
+ghost use Rattle.std.specs.Map.{lookup, remove_entry};
+ghost use Rattle.std.specs.BTreeMap.{insert_entry, is_at};
+ghost use Rattle.std.specs.List.{HoldsAt};
+ghost use Rattle.std.specs.BTreeMap.Range.{entries_between};
+ghost use Rattle.std.specs.Option.{option_copied, option_copied_mut};
+ghost use Rattle.std.specs.declared.ops.Bound.TheVariants.{Unbounded};
+
+use crate::BLOCK;
+use range_core::Memory;
+use std::alloc::Global;
+use std::marker::Model;
+use std::mem;
+use std::ops::Bound;
+
+/// Entries by rising keys.
+#[derive(Drop)]
+pub(crate) struct Block<K: Ord + Copy, V> {
+    entries: Vec<(K, V)>,
+}
+
+impl<K: Ord + Copy, V> Model for Block<K, V> {
+    ghost use Rattle.std.specs.Prelude.{List};
+    ghost use Rattle.block_map.specs.Blocks.{AreRising};
+
+    ghost Value = { List (K × V) };
+
+    ghost view = { λ a. a.entries.items };
+
+    ghost invariant = { λ a. AreRising K.cmp a.entries.items };
+}
+
+impl<K: Ord + Copy, V: Drop> Block<K, V> {
+    ghost use Rattle.block_map.specs.Blocks.{AreRising, IsFoundAt, IsMissingAt};
+    ghost use Rattle.block_map.specs.Lending.{LendsInBlock};
+
+    /// No entry. It takes no memory.
+    pub(crate) fn new(alloc: Global) -> Self
+        ensures { result ≡ [] }
+    {
+        Block {
+            entries: Vec::new(alloc),
+        }
+    }
+
+    /// How many entries there are.
+    pub(crate) fn len(&self) -> usize
+        ensures { result ≡ length self.now }
+    {
+        self.entries.len()
+    }
+
+    /// Where the key's entry stands, or where one would.
+    fn place_of(&self, key: K) -> Result<usize, usize>
+        ensures within { MatchResult result (λ place. place < length self.now) (λ place. place ≤ length self.now) }
+        ensures place { MatchResult result (IsFoundAt K.cmp key self.now) (IsMissingAt K.cmp key self.now) }
+        ensures rising { AreRising K.cmp self.now }
+        ensures fits { length self.now < 2 ^ 64 }
+    {
+        self.entries.binary_search_by(|entry| entry.0.cmp(&key))
+    }
+
+    /// The value of the key.
+    pub(crate) fn get(&self, key: K) -> Option<&V>
+        ensures { option_copied result ≡ lookup (is_at (K.cmp key)) self.now }
+    {
+        match self.place_of(key) {
+            Ok(place) => Some(&self.entries[place].1),
+            Err(_) => None,
+        }
+    }
+
+    /// The value of the key, which may be changed.
+    pub(crate) fn get_mut(&mut self, key: K) -> Option<&mut V>
+        ensures* lends { sem 𝓛 (LendsInBlock K.row V.row K.Ord self.entry key result) }
+        ensures value { option_copied_mut result ≡ lookup (is_at (K.cmp key)) self.old }
+    {
+        match self.place_of(key) {
+            Ok(place) => Some(&mut self.entries[place].1),
+            Err(_) => None,
+        }
+    }
+
+    /// The key has the value. Where it had another, that is the result.
+    ///
+    /// `Memory` leaves the entries as they were.
+    pub(crate) fn insert(&mut self, key: K, value: V) -> Result<Option<V>, Memory>
+        ensures old { IfOk result (λ old. old ≡ lookup (is_at (K.cmp key)) self.old) }
+        ensures ok { OnOk result (self.new ≡ insert_entry K.cmp self.old key value) }
+        ensures err { OnErr result (self.new ≡ self.old) }
+    {
+        match self.place_of(key) {
+            Ok(place) => Ok(Some(mem::replace(&mut self.entries[place].1, value))),
+            Err(place) => {
+                self.entries.insert(place, (key, value))?;
+                Ok(None)
+            }
+        }
+    }
+
+    /// Takes the key's entry out. It takes no memory.
+    pub(crate) fn remove(&mut self, key: K) -> Option<V>
+        ensures value { result ≡ lookup (is_at (K.cmp key)) self.old }
+        ensures entries { self.new ≡ remove_entry (is_at (K.cmp key)) self.old }
+    {
+        match self.place_of(key) {
+            Ok(place) => Some(self.entries.remove(place).1),
+            Err(_) => None,
+        }
+    }
+
+    /// Whether there is no entry.
+    pub(crate) fn is_empty(&self) -> bool
+        ensures { (result ≡ true) ↔ (self.now ≡ []) }
+    {
+        self.entries.is_empty()
+    }
+
+    /// Where there is no room for one more entry: from where on the entries are to go to another block.
+    ///
+    /// Where the key belongs behind all, only the last entry goes, so that keys that rise leave full blocks behind.
+    pub(crate) fn place_to_split(&self, key: K) -> Option<usize>
+        ensures { IfSome result (λ place. (0 < place) × (place < length self.now)) }
+    {
+        let len = self.entries.len();
+        if len < BLOCK {
+            return None;
+        }
+        if self.entries[len - 1].0 < key {
+            Some(len - 1)
+        } else {
+            Some(len / 2)
+        }
+    }
+
+    /// The key of the entry at this place.
+    pub(crate) fn key_at(&self, place: usize) -> K
+        requires { place < length self.now }
+        ensures key { HoldsAt (λ e. e.0 ≡ result) self.now place }
+        ensures rising { AreRising K.cmp self.now }
+    {
+        self.entries[place].0
+    }
+
+    /// Takes the entries from this place on out.
+    ///
+    /// `Memory` leaves the entries as they were.
+    pub(crate) fn split_off(&mut self, place: usize) -> Result<Self, Memory>
+        requires { place ≤ length self.old }
+        ensures ok { OnOk result (self.new ≡ take place self.old) }
+        ensures tail { IfOk result (λ tail. tail ≡ drop place self.old) }
+        ensures err { OnErr result (self.new ≡ self.old) }
+        ensures rising { AreRising K.cmp self.old }
+    {
+        let entries = self.entries.split_off(place)?;
+        Ok(Block { entries })
+    }
+
+    /// All entries, side by side.
+    pub(crate) fn entries(&self) -> &[(K, V)]
+        ensures { result.now ≡ self.now }
+    {
+        &self.entries
+    }
+
+    /// Where the entries from the bound on begin.
+    fn place_from(&self, from: &Bound<K>) -> usize
+        ensures within { result ≤ length self.now }
+        ensures entries { drop result self.now ≡ entries_between K.cmp from.now Unbounded self.now }
+    {
+        match from {
+            Bound::Unbounded => 0,
+            Bound::Included(key) => match self.place_of(*key) {
+                Ok(place) => place,
+                Err(place) => place,
+            },
+            Bound::Excluded(key) => match self.place_of(*key) {
+                Ok(place) => place + 1,
+                Err(place) => place,
+            },
+        }
+    }
+
+    /// The entries from the bound on.
+    pub(crate) fn entries_from(&self, from: &Bound<K>) -> &[(K, V)]
+        ensures { result.now ≡ entries_between K.cmp from.now Unbounded self.now }
+    {
+        let place = self.place_from(from);
+        &self.entries[place..]
+    }
+}

@@ -1,0 +1,227 @@
+//! Blocks behind their bounds.
+ghost use Rattle.std.specs.Prelude.{◌≡◌, [], None, Some, IfOk, OnErr, OnOk, IsTrue};
+ghost use Rattle.std.specs.Borrow.{sem};
+ghost use Rattle.std.specs.Map.{lookup, remove_entry};
+ghost use Rattle.std.specs.BTreeMap.{insert_entry, is_at};
+ghost use Rattle.std.specs.BTreeMap.Range.{entries_between};
+ghost use Rattle.std.specs.Option.{option_copied, option_copied_mut};
+ghost use Rattle.std.specs.declared.ops.Bound.TheVariants.{Unbounded};
+
+use crate::block::Block;
+use crate::iter::Iter;
+use range_core::Memory;
+use std::alloc::Global;
+use std::collections::BTreeMap;
+use std::collections::btree_map::Range;
+use std::ops::Bound;
+
+/// Entries by rising keys: first those before all bounds, and then those of each block, from its bound on, before the next.
+#[derive(Drop)]
+pub(crate) struct Blocks<K: Ord + Copy, V> {
+    first: Block<K, V>,
+    others: BTreeMap<K, Block<K, V>>,
+    alloc: Global,
+}
+
+impl<K: Ord + Copy, V: Drop> Blocks<K, V> {
+    ghost use Rattle.block_map.specs.Blocks.{bound_for as bound_in, bound_from};
+    ghost use Rattle.block_map.specs.Kept.{AreInOrder, behind_bound, block_at, entries_in, HasPlace, KeepsEntries};
+    ghost use Rattle.block_map.specs.Lending.{LendsBlock, LendsValue};
+
+    /// No entry. It takes no memory.
+    pub(crate) fn new(alloc: Global) -> Self
+        ensures entries { entries_in result ≡ [] }
+        ensures parted { AreInOrder K.cmp result }
+    {
+        Blocks {
+            first: Block::new(alloc),
+            others: BTreeMap::new(alloc),
+            alloc,
+        }
+    }
+
+    /// The bound of the key's block, where it isn't the first.
+    fn bound_for(&self, key: K) -> Option<K>
+        requires { AreInOrder K.cmp self.now }
+        ensures { result ≡ bound_in K.cmp key self.now.others.entries }
+    {
+        let (bound, _) = self
+            .others
+            .range((Bound::Unbounded, Bound::Included(key)))
+            .next_back()?;
+        Some(*bound)
+    }
+
+    /// The block behind the bound, or the first.
+    fn block(&self, bound: Option<K>) -> Option<&Block<K, V>>
+        ensures { option_copied result ≡ block_at K.cmp bound self.now }
+    {
+        match bound {
+            None => Some(&self.first),
+            Some(bound) => self.others.get(&bound),
+        }
+    }
+
+    /// The block behind the bound, or the first, which may be changed.
+    fn block_mut(&mut self, bound: Option<K>) -> Option<&mut Block<K, V>>
+        ensures* lends { sem 𝓛 (LendsBlock K.row V.row K.Ord self.entry bound result) }
+        ensures value { option_copied_mut result ≡ block_at K.cmp bound self.old }
+    {
+        match bound {
+            None => Some(&mut self.first),
+            Some(bound) => self.others.get_mut(&bound),
+        }
+    }
+
+    /// The value of the key.
+    pub(crate) fn get(&self, key: K) -> Option<&V>
+        requires { AreInOrder K.cmp self.now }
+        ensures { option_copied result ≡ lookup (is_at (K.cmp key)) (entries_in self.now) }
+    {
+        let bound = self.bound_for(key);
+        self.block(bound)?.get(key)
+    }
+
+    /// The value of the key, which may be changed.
+    pub(crate) fn get_mut(&mut self, key: K) -> Option<&mut V>
+        requires { AreInOrder K.cmp self.old }
+        ensures* lends { sem 𝓛 (LendsValue K.row V.row K.Ord self.entry key result) }
+        ensures value { option_copied_mut result ≡ lookup (is_at (K.cmp key)) (entries_in self.old) }
+    {
+        let bound = self.bound_for(key);
+        self.block_mut(bound)?.get_mut(key)
+    }
+
+    /// The key has the value. Where it had another, that is the result.
+    ///
+    /// `Memory` leaves the entries as they were.
+    pub(crate) fn insert(&mut self, key: K, value: V) -> Result<Option<V>, Memory>
+        requires { AreInOrder K.cmp self.old }
+        ensures old { IfOk result (λ old. old ≡ lookup (is_at (K.cmp key)) (entries_in self.old)) }
+        ensures ok { OnOk result (entries_in self.new ≡ insert_entry K.cmp (entries_in self.old) key value) }
+        ensures err { OnErr result (entries_in self.new ≡ entries_in self.old) }
+        ensures parted { AreInOrder K.cmp self.new }
+    {
+        self.make_room(key)?;
+        let bound = self.bound_for(key);
+        self.block_mut(bound).unwrap().insert(key, value)
+    }
+
+    /// Where the key's block has no room for one more entry, it is split.
+    ///
+    /// `Memory` leaves the entries as they were.
+    fn make_room(&mut self, key: K) -> Result<(), Memory>
+        requires { AreInOrder K.cmp self.old }
+        ensures { KeepsEntries K.cmp self.old self.new }
+    {
+        let bound = self.bound_for(key);
+        match self.block(bound).unwrap().place_to_split(key) {
+            Some(place) => self.split(bound, place),
+            None => Ok(()),
+        }
+    }
+
+    /// The entries of a block from this place on go to a block of their own.
+    ///
+    /// `Memory` leaves the entries as they were.
+    fn split(&mut self, bound: Option<K>, place: usize) -> Result<(), Memory>
+        requires parted { AreInOrder K.cmp self.old }
+        requires place { HasPlace (block_at K.cmp bound self.old) place }
+        ensures { KeepsEntries K.cmp self.old self.new }
+    {
+        let behind = self.block(bound).unwrap().key_at(place);
+        self.others.insert(behind, Block::new(self.alloc))?;
+        // From here on, what fails takes the empty block out again.
+        match self.block_mut(bound).unwrap().split_off(place) {
+            Ok(tail) => {
+                *self.others.get_mut(&behind).unwrap() = tail;
+                Ok(())
+            }
+            Err(memory) => {
+                self.others.remove(&behind);
+                Err(memory)
+            }
+        }
+    }
+
+    /// Takes the key's entry out. It takes no memory.
+    pub(crate) fn remove(&mut self, key: K) -> Option<V>
+        requires { AreInOrder K.cmp self.old }
+        ensures value { result ≡ lookup (is_at (K.cmp key)) (entries_in self.old) }
+        ensures entries { entries_in self.new ≡ remove_entry (is_at (K.cmp key)) (entries_in self.old) }
+        ensures parted { AreInOrder K.cmp self.new }
+    {
+        let bound = self.bound_for(key);
+        let value = self.block_mut(bound).unwrap().remove(key);
+        self.drop_empty(bound);
+        value
+    }
+
+    /// A block behind a bound that has no entry goes.
+    fn drop_empty(&mut self, bound: Option<K>)
+        requires { AreInOrder K.cmp self.old }
+        ensures { KeepsEntries K.cmp self.old self.new }
+    {
+        let Some(bound) = bound else {
+            return;
+        };
+        if self.is_empty_at(bound) {
+            self.others.remove(&bound);
+        }
+    }
+
+    /// Whether the block behind the bound has no entry.
+    fn is_empty_at(&self, bound: K) -> bool
+        ensures { IsTrue result → lookup (is_at (K.cmp bound)) self.now.others.entries ≡ Some [] }
+    {
+        match self.others.get(&bound) {
+            Some(block) => block.is_empty(),
+            None => false,
+        }
+    }
+
+    /// The entries by rising keys.
+    pub(crate) fn iter(&self) -> Iter<'_, K, V>
+        ensures { result ≡ entries_in self.now }
+    {
+        Iter {
+            left: self.first.entries(),
+            blocks: self.others.range(..),
+        }
+    }
+
+    /// The entries from the bound on, by rising keys.
+    pub(crate) fn iter_from(&self, from: &Bound<K>) -> Iter<'_, K, V>
+        requires { AreInOrder K.cmp self.now }
+        ensures { result ≡ entries_between K.cmp from.now Unbounded (entries_in self.now) }
+    {
+        let bound = self.bound_from(from);
+        Iter {
+            left: self.block(bound).unwrap().entries_from(from),
+            blocks: self.behind(bound),
+        }
+    }
+
+    /// The bound of the block where the entries from this one on begin, where it isn't the first.
+    fn bound_from(&self, from: &Bound<K>) -> Option<K>
+        requires { AreInOrder K.cmp self.now }
+        ensures { result ≡ bound_from K.cmp from.now self.now.others.entries }
+    {
+        match from {
+            Bound::Unbounded => None,
+            Bound::Included(key) => self.bound_for(*key),
+            Bound::Excluded(key) => self.bound_for(*key),
+        }
+    }
+
+    /// The blocks behind that of the bound, or behind the first.
+    fn behind(&self, bound: Option<K>) -> Range<'_, K, Block<K, V>>
+        ensures { result ≡ entries_between K.cmp (behind_bound bound) Unbounded self.now.others.entries }
+    {
+        let from = match bound {
+            None => Bound::Unbounded,
+            Some(bound) => Bound::Excluded(bound),
+        };
+        self.others.range((from, Bound::Unbounded))
+    }
+}

@@ -1,0 +1,13 @@
+//! A map whose keys are kept in order, and whose entries lie in blocks: an entry takes little more room than its own.
+#![tactic(auto)]
+
+mod block;
+mod blocks;
+mod iter;
+mod map;
+
+pub use iter::Iter;
+pub use map::BlockMap;
+
+/// How many entries a block has at most.
+const BLOCK: usize = 32;
