@@ -45,13 +45,6 @@ impl<K: Ord + Copy, V: Drop> Block<K, V> {
         }
     }
 
-    /// How many entries there are.
-    pub(crate) fn len(&self) -> usize
-        ensures { result ≡ length self.now }
-    {
-        self.entries.len()
-    }
-
     /// Where the key's entry stands, or where one would.
     fn place_of(&self, key: K) -> Result<usize, usize>
         ensures within { MatchResult result (λ place. place < length self.now) (λ place. place ≤ length self.now) }
