@@ -25,7 +25,7 @@ unfoldable pub use Rattle.lock_book.specs.Books.{byte_modes_of, flock_modes_of, 
 pub use Rattle.lock_book.specs.Conflicts.{Blocks, ByteModes}
 pub use Rattle.lock_book.specs.Holders.{mode_in_place}
 pub use Rattle.lock_book.specs.Indexing.{AreRunsWhere, as_holder, holder_modes, is_listed, is_outside, modes_among, touches}
-pub use Rattle.lock_book.specs.Kept.{pair_of, unboxed}
+pub use Rattle.lock_book.specs.Kept.{pair_of}
 pub use Rattle.lock_book.specs.OwnerLists.{AreFound, AreRising, IsIdle, PutsFor, modes_in_list}
 pub use Rattle.lock_book.specs.Owners.{IsBefore, is_same_owner}
 pub use Rattle.lock_book.specs.declared.Held.{Held}

@@ -3,6 +3,7 @@ use denote.Param.Send.{sendable, view_send, IsSend}
 use denote.Param.SendFields.{declared_send, variants_send, as_row_send}
 use Rattle.std.proofs.Crossing.{Box-send, crosses, send}
 use Rattle.std.proofs.MapsCrossing.{BTreeMap-send}
+use Rattle.block_map.proofs.Crossing.{map_send}
 use Rattle.interval_index.proofs.Crossing.{runs_send}
 use Rattle.owner_runs.proofs.Crossing.{owner_runs_send}
 use Rattle.lock_book.specs.contracts.book.Book as book
@@ -26,7 +27,7 @@ owned_owner_runs_send : IsSend owned_list.the_row
 owned_owner_runs_send = search (owner_send, owner_runs_send, declared_send, tt) depth 20
 
 kept_send : IsSend kept.the_row
-kept_send = search (BTreeMap-send, Box-send, owner_send, owner_runs_send, owned_owner_runs_send, variants_send, as_row_send, tt) depth 20
+kept_send = search (map_send, owner_send, owner_runs_send, owned_owner_runs_send, variants_send, as_row_send, tt) depth 20
 
 lists_send : IsSend lists.the_row
 lists_send = search (view_send, declared_send, kept_send, tt) depth 20

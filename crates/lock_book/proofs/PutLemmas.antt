@@ -1,11 +1,10 @@
 -- What a look-up finds once an owner's list is put, set or gone: for `OwnerLists`, and for the calls that change one owner's list.
-use Rattle.lock_book.proofs.Common.{◌≡◌, ◌∙◌, sym, ap, refl, subst, arith, cond, Bool, true, false, Option, Some, List, [], ◌∷◌, inl, inr, Box, Global, common_steps, option_map, lookup, set_value, get, cases_Bool, nat_tests, OwnerRuns, Owner, is_same_owner, PutsFor, unboxed}
+use Rattle.lock_book.proofs.Common.{◌≡◌, ◌∙◌, sym, ap, refl, subst, arith, cond, true, false, Option, Some, List, [], ◌∷◌, inl, inr, common_steps, lookup, set_value, is_at, cases_Bool, nat_tests, OwnerRuns, Owner, is_same_owner, PutsFor}
 use Rattle.std.specs.Prelude.{IsSome}
 use Rattle.std.specs.Cmp.{IsEquivalence}
-use Rattle.std.specs.BTreeMap.{UpdatesBy}
+use Rattle.block_map.specs.Updates.{Updates}
 use Rattle.std.proofs.lemmas.Map.{lookup-set_value}
-use Rattle.lock_book.proofs.OwnerListLemmas.{Blocks, lookup-unboxed}
-use Rattle.lock_book.proofs.OwnerLemmas.{is_eq-owner_cmp, is_same_owner-self, owner_cmp, same_owner}
+use Rattle.lock_book.proofs.OwnerLemmas.{is_eq-owner_cmp, is_same_owner-self, lookup-owner_cmp, owner_cmp, same_owner}
 
 same_owner-back : (one other : Owner) → is_same_owner one other ≡ is_same_owner other one
 same_owner-back one other = grind (arith, common_steps, cases_Bool, nat_tests)
@@ -22,20 +21,11 @@ pub PutsFor-set : (lists : List (Owner × OwnerRuns)) (owner : Owner) (list : Ow
 PutsFor-set lists owner list there other =
     lookup-set_value same_owner-laws (is_same_owner owner) (same_owner-along owner) other list lists there
 
--- an update of the blocks puts the list in its block, or takes it away
-pub PutsFor-updates : (old new : Blocks) (owner : Owner) (block : Option (Box OwnerRuns Global)) → UpdatesBy owner_cmp (owner_cmp owner) old new block
-    → PutsFor (unboxed old.entries) (unboxed new.entries) owner (option_map (λ b. b.value) block)
-PutsFor-updates old new owner block updates other =
-    lookup-unboxed new other
-    ∙ ap (option_map (λ (b : Box OwnerRuns Global). b.value))
-    (updates.0 other ∙ ap (λ test. cond test block (get owner_cmp old other)) (is_eq-owner_cmp owner other))
-    ∙ mapped (is_same_owner owner other)
-    ∙ ap (λ list. cond (is_same_owner owner other) (option_map (λ (b : Box OwnerRuns Global). b.value) block) list) (sym (lookup-unboxed old other))
-  where
-    mapped : (test : Bool) → option_map (λ (b : Box OwnerRuns Global). b.value) (cond test block (get owner_cmp old other))
-        ≡ cond test (option_map (λ (b : Box OwnerRuns Global). b.value) block) (option_map (λ (b : Box OwnerRuns Global). b.value) (get owner_cmp old other))
-    mapped true = refl
-    mapped false = refl
+-- an update of a map puts the list, or takes it away
+pub PutsFor-updates : (old new : List (Owner × OwnerRuns)) (owner : Owner) (list : Option OwnerRuns) → Updates owner_cmp old new owner list → PutsFor old new owner list
+PutsFor-updates old new owner list updates other =
+    sym (lookup-owner_cmp other new) ∙ (updates other
+    ∙ (ap (λ test. cond test list (lookup (is_at (owner_cmp other)) old)) (is_eq-owner_cmp owner other) ∙ ap (λ found. cond (is_same_owner owner other) list found) (lookup-owner_cmp other old)))
 
 -- a list was put for one owner and another list for another; the first is still there
 pub still_there : (one other : Owner) (list added : OwnerRuns) (none first both : List (Owner × OwnerRuns)) → PutsFor none first one (Some list)

@@ -1,9 +1,7 @@
 -- How the lists of owners are kept.
-use Rattle.std.specs.Prelude.{◌≡◌, List, [], ◌∷◌, map, Option, Some, None, OnSome}
+use Rattle.std.specs.Prelude.{◌≡◌, List, [], ◌∷◌, Option, Some, None, OnSome}
 use Rattle.std.specs.Borrow.{LendsSo, MutBor, Fml}
 use Rattle.std.specs.Map.{set_value}
-use Rattle.std.specs.declared.alloc.Global.{Global}
-use Rattle.std.specs.declared.boxed.Box.{Box}
 use Rattle.owner_runs.specs.declared.owner_runs.OwnerRuns.{OwnerRuns}
 use Rattle.owner_runs.specs.contracts.owner_runs.OwnerRuns as list
 use Rattle.lock_book.specs.declared.Owner.{Owner}
@@ -19,21 +17,17 @@ use Rattle.lock_book.specs.Owners.{is_same_owner}
 abbrev pub pair_of : OwnedList → Owner × OwnerRuns
 pair_of one = (one.owner, one.list)
 
--- owners with the lists in their blocks
-abbrev pub unboxed : List (Owner × Box OwnerRuns Global) → List (Owner × OwnerRuns)
-unboxed lists = map (λ one. (one.0, one.1.value)) lists
-
 -- the owners with their lists
 abbrev pub lists_in : Kept → List (Owner × OwnerRuns)
 lists_in kept.Nothing = []
 lists_in (kept.One one) = pair_of one ∷ []
-lists_in (kept.Many lists) = unboxed lists.entries
+lists_in (kept.Many lists) = lists
 
 -- those that are still to come
 abbrev pub lists_left : Left → List (Owner × OwnerRuns)
 lists_left (left.One None) = []
 lists_left (left.One (Some one)) = pair_of one.now ∷ []
-lists_left (left.Many lists) = unboxed lists
+lists_left (left.Many lists) = lists
 
 -- once the borrow ends, the owner has the list that was left behind it
 abbrev pub LendsKept : MutBor Kept → Owner → Option (MutBor OwnerRuns) → Fml

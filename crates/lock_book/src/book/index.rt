@@ -60,7 +60,7 @@ impl OwnersIndex {
         requires { AreIndexed self.old owners.now }
         ensures { AreIndexed self.new owners.now }
     {
-        if !self.is_wanted(owners.len()) {
+        if !self.is_wanted(owners) {
             self.runs = None;
             return;
         }
@@ -83,8 +83,8 @@ impl OwnersIndex {
     }
 
     /// Whether there are so many owners, or runs in the index, that there is to be one.
-    fn is_wanted(&self, owners: usize) -> bool {
-        owners > FEW_OWNERS
+    fn is_wanted(&self, owners: &OwnerLists) -> bool {
+        owners.has_more_than(FEW_OWNERS)
             || self
                 .runs
                 .as_deref()

@@ -1,19 +1,18 @@
 //! The lists of the owners of byte locks on one file.
-ghost use Rattle.std.specs.Prelude.{◌≡◌, [], ◌∷◌, None, Some, IfOk, OnOk, OnErr, false, length};
+ghost use Rattle.std.specs.Prelude.{◌≡◌, [], ◌∷◌, None, Some, IfOk, OnOk, OnErr, false, length, nat_lt};
 ghost use Rattle.std.specs.List.{filter};
 ghost use Rattle.std.specs.Map.{lookup};
 ghost use Rattle.std.specs.Option.{option_copied, option_copied_mut};
 ghost use Rattle.std.specs.Borrow.{sem};
 ghost use Rattle.lock_book.specs.Owners.{is_from, is_same_owner};
-ghost use Rattle.lock_book.specs.Kept.{pair_of, unboxed};
+ghost use Rattle.lock_book.specs.Kept.{pair_of};
 ghost use Rattle.lock_book.specs.OwnerLists.{AreFound, AreRising, PutsFor};
 
 use crate::Owner;
+use block_map::{BlockMap, Iter};
 use owner_runs::OwnerRuns;
 use range_core::Memory;
 use std::alloc::Global;
-use std::collections::BTreeMap;
-use std::collections::btree_map::Range;
 use std::marker::Model;
 use std::mem;
 use std::ops::Bound;
@@ -38,12 +37,12 @@ impl Model for OwnerLists {
     ghost view = { λ a. lists_in a.kept };
 }
 
-/// How many lists there are, and these. Each of many lies in a block of its own, so that a leaf of the map is small.
+/// How many lists there are, and these.
 #[derive(Drop)]
 enum Kept {
     Nothing,
     One(OwnedList),
-    Many(BTreeMap<Owner, Box<OwnerRuns>>),
+    Many(BlockMap<Owner, OwnerRuns>),
 }
 
 /// An owner with its list.
@@ -65,14 +64,14 @@ impl OwnerLists {
         }
     }
 
-    /// How many owners have a list.
-    pub fn len(&self) -> usize
-        ensures { result ≡ length self.now }
+    /// Whether more owners than so many have a list.
+    pub fn has_more_than(&self, limit: usize) -> bool
+        ensures { result ≡ nat_lt limit (length self.now) }
     {
         match &self.kept {
-            Kept::Nothing => 0,
-            Kept::One(_) => 1,
-            Kept::Many(lists) => lists.len(),
+            Kept::Nothing => false,
+            Kept::One(_) => limit == 0,
+            Kept::Many(lists) => lists.has_more_than(limit),
         }
     }
 
@@ -89,7 +88,7 @@ impl OwnerLists {
                     None
                 }
             }
-            Kept::Many(lists) => Some(lists.get(&owner)?.as_ref()),
+            Kept::Many(lists) => lists.get(owner),
         }
     }
 
@@ -114,8 +113,7 @@ impl OwnerLists {
             Kept::Nothing => self.kept = Kept::One(added),
             Kept::One(one) => self.kept = Kept::Many(map_of(alloc, one, added)?),
             Kept::Many(lists) => {
-                let list = Box::new(alloc, added.list)?;
-                lists.insert(owner, list)?;
+                lists.insert(owner, added.list)?;
             }
         }
         Ok(())
@@ -129,7 +127,7 @@ impl OwnerLists {
         match mem::replace(&mut self.kept, Kept::Nothing) {
             Kept::One(one) if one.owner == owner => Some(one.list),
             Kept::Many(mut lists) => {
-                let list = lists.remove(&owner).map(Box::into_inner);
+                let list = lists.remove(owner);
                 if !lists.is_empty() {
                     self.kept = Kept::Many(lists);
                 }
@@ -159,7 +157,7 @@ impl OwnerLists {
         let left = match &self.kept {
             Kept::Nothing => Left::One(None),
             Kept::One(one) => Left::One(is_owner_from(from, one.owner).then_some(one)),
-            Kept::Many(lists) => Left::Many(lists.range((from, Bound::Unbounded))),
+            Kept::Many(lists) => Left::Many(lists.iter_from(from)),
         };
         Lists { left }
     }
@@ -181,10 +179,7 @@ impl Kept {
                 }
                 None
             }
-            Kept::Many(lists) => {
-                let list = lists.get_mut(&owner)?;
-                Some(list.as_mut())
-            }
+            Kept::Many(lists) => lists.get_mut(owner),
         }
     }
 }
@@ -196,19 +191,16 @@ fn map_of(
     alloc: Global,
     one: &mut OwnedList,
     other: OwnedList,
-) -> Result<BTreeMap<Owner, Box<OwnerRuns>>, Memory>
+) -> Result<BlockMap<Owner, OwnerRuns>, Memory>
     requires { is_same_owner other.owner one.old.owner ≡ false }
-    ensures ok { IfOk result (λ lists. PutsFor (pair_of one.old ∷ []) (unboxed lists.entries) other.owner (Some other.list)) }
+    ensures ok { IfOk result (λ lists. PutsFor (pair_of one.old ∷ []) lists other.owner (Some other.list)) }
     ensures err { OnErr result (one.new ≡ one.old) }
 {
-    let mut lists = BTreeMap::new(alloc);
-    let empty = Box::new(alloc, OwnerRuns::new(alloc))?;
-    lists.insert(one.owner, empty)?;
-    let added = Box::new(alloc, other.list)?;
-    lists.insert(other.owner, added)?;
+    let mut lists = BlockMap::new(alloc);
+    lists.insert(one.owner, OwnerRuns::new(alloc))?;
+    lists.insert(other.owner, other.list)?;
     // From here on nothing fails.
-    let list = lists.get_mut(&one.owner).unwrap();
-    mem::swap(list.as_mut(), &mut one.list);
+    mem::swap(lists.get_mut(one.owner).unwrap(), &mut one.list);
     Ok(lists)
 }
 
@@ -233,7 +225,7 @@ pub struct Lists<'a> {
 #[derive(Drop)]
 enum Left<'a> {
     One(Option<&'a OwnedList>),
-    Many(Range<'a, Owner, Box<OwnerRuns>>),
+    Many(Iter<'a, Owner, OwnerRuns>),
 }
 
 impl<'a> Model for Lists<'a> {
@@ -265,10 +257,7 @@ impl<'a> Iterator for Lists<'a> {
                 let one = one.take()?;
                 Some((&one.owner, &one.list))
             }
-            Left::Many(lists) => {
-                let (owner, list) = lists.next()?;
-                Some((owner, list.as_ref()))
-            }
+            Left::Many(lists) => lists.next(),
         }
     }
 }
