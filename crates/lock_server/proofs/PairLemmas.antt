@@ -1,9 +1,13 @@
 -- Pairs of an owner and a file, in order: for the holdings.
 use Rattle.lock_server.proofs.Common.{arith, ℕ, ◌≡◌, ◌≢◌, ◌-◌, ◌^◌, ◌<◌, ◌≤◌, ◌∙◌, inl, inr, sym, ap, refl, subst, true, false, Bool, Option, Some, None, IsTrue, cases_eq, cases_lt, nat_tests, is_at, IsFromStart, nat_cmp, is_within, pair_cmp, number_behind}
+use Rattle.std.proofs.Common.{cond, List}
+use Rattle.std.specs.Prelude.{IfNone, is_some}
+use Rattle.std.specs.Map.{lookup}
 use Rattle.std.specs.BTreeMap.Range.{IsLeBy, IsLtBy}
 use Rattle.std.specs.Ordering.{is_eq, is_gt, ordering_then}
 use Rattle.std.specs.declared.cmp.Ordering.{Ordering}
 use Rattle.std.specs.declared.cmp.Ordering.TheVariants.{Less, Equal, Greater}
+use Rattle.block_map.specs.Updates.{Updates}
 use Rattle.lock_server.specs.HoldingsView.{behind, behind_owner}
 use Rattle.lock_server.specs.OpeningsView.{IsAbove}
 
@@ -43,6 +47,21 @@ module _ (owner file other any : ℕ) where
     | inl is ↦ ap (λ (o : Ordering). is_eq (ordering_then o (nat_cmp file any))) (same owner other (sym is)) ∙ differs file any (λ is_file. apart (sym is_file))
     | inr other_owner ↦ pair_of_other other_owner
   ]
+
+-- what follows where there is none
+pub none_weaker : {A P Q : Type 0} (found : Option A) → (P → Q) → IfNone found P → IfNone found Q
+none_weaker None follows fact = follows fact
+none_weaker (Some x) follows fact = tt
+
+module _ {X : Type 0} (old new : List ((ℕ × ℕ) × X)) (owner file : ℕ) (value : Option X) (updates : Updates pair_cmp old new (owner, file) value) where
+  -- an update of a pair says whether it is kept
+  pub pair_kept : is_some (lookup (is_at (pair_cmp (owner, file))) new) ≡ is_some value
+  pair_kept = ap is_some (updates (owner, file) ∙ ap (λ b. cond b value (lookup (is_at (pair_cmp (owner, file))) old)) (pair_at owner file owner file refl refl))
+
+  -- and each other pair is kept where it was
+  pub pair_left : (other any : ℕ) → is_at (pair_cmp (owner, file)) (other, any) ≡ false
+      → is_some (lookup (is_at (pair_cmp (other, any))) new) ≡ is_some (lookup (is_at (pair_cmp (other, any))) old)
+  pair_left other any apart = ap is_some (updates (other, any) ∙ ap (λ b. cond b value (lookup (is_at (pair_cmp (other, any))) old)) apart)
 
 -- of one owner's pairs that of the lesser file comes first
 pub pair_before : (owner file any : ℕ) → file < any → IsLtBy pair_cmp (owner, file) (owner, any)

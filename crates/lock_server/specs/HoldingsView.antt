@@ -1,6 +1,7 @@
 -- What is kept of the files on which owners have something (the words are this project's choice).
-use Rattle.std.specs.Prelude.{◌≡◌, ◌≢◌, ◌<◌, ◌-◌, ◌^◌, ◌⊎◌, ℕ, Bool, true, false, IsTrue, MatchOption, Option, Some, None}
-use Rattle.std.specs.BTreeSet.{btree_set_len, contains}
+use Rattle.std.specs.Prelude.{◌≡◌, ◌≢◌, ◌<◌, ◌-◌, ◌^◌, ◌⊎◌, ℕ, Bool, true, false, IsTrue, MatchOption, Option, Some, None, is_some, length}
+use Rattle.std.specs.Map.{lookup}
+use Rattle.std.specs.BTreeMap.{is_at}
 use Rattle.std.specs.Ordering.{nat_cmp, ordering_then}
 use Rattle.std.specs.declared.cmp.Ordering.{Ordering}
 use Rattle.std.specs.declared.ops.Bound.{Bound}
@@ -30,13 +31,17 @@ behind_owner (Some owner) = behind owner (Some (2 ^ 64 - 1))
 abbrev pub IsBelow : Option ℕ → ℕ → Type 0
 IsBelow least number = MatchOption least (Unit {0}) (λ bound. number < bound)
 
+-- whether the pair of an owner and a file is kept
+abbrev pub keeps_pair : Holdings → ℕ × ℕ → Bool
+keeps_pair holdings pair = is_some (lookup (is_at (pair_cmp pair)) holdings.pairs)
+
 -- whether the owner is kept with the file
 unfoldable pub keeps : Holdings → ℕ → ℕ → Bool
-keeps holdings owner file = contains pair_cmp holdings.pairs (owner, file)
+keeps holdings owner file = keeps_pair holdings (owner, file)
 
 -- how many pairs are kept
 unfoldable pub size : Holdings → ℕ
-size holdings = btree_set_len holdings.pairs
+size holdings = length holdings.pairs
 
 -- each owner is kept with the same files
 pub record SameHoldings (old new : Holdings) : Type 0 where

@@ -1,7 +1,6 @@
 //! The files on which each owner has something.
 ghost use Rattle.std.specs.Prelude.{◌≡◌, ◌<◌, ◌≤◌, ℕ, true, false, IfSome, IfNone, IsTrue, IsOk, None, OnOk, OnErr};
 ghost use Rattle.std.specs.BTreeMap.Range.{IsFromStart, IsLeBy};
-ghost use Rattle.std.specs.BTreeSet.{contains};
 ghost use Rattle.lock_server.specs.HoldingsView.{behind as behind_of};
 
 mod collecting;
@@ -12,21 +11,21 @@ use crate::openings::Openings;
 use crate::owners::Owners;
 use crate::table::Table;
 use crate::{Memory, Mode};
+use block_map::BlockMap;
 use std::alloc::Global;
-use std::collections::BTreeSet;
 use std::ops::Bound;
 
 /// The files on which each owner has a lock or a wait, or is noted: an order of the server's things by owner.
 #[derive(Drop)]
 pub struct Holdings {
     /// By owner, and then by file.
-    pairs: BTreeSet<(u64, u64)>,
+    pairs: BlockMap<(u64, u64), ()>,
 }
 
 #[tactic(auto, unfolding(crate::specs::HoldingsView::keeps, crate::specs::HoldingsView::size))]
 impl Holdings {
     ghost use Rattle.lock_server.specs.Clients.{ForgetsSeen, is_within};
-    ghost use Rattle.lock_server.specs.HoldingsView.{keeps, Keeps, KeepsIf, pair_cmp, SameHoldings, size, Tidies, TidiesIf};
+    ghost use Rattle.lock_server.specs.HoldingsView.{keeps, Keeps, keeps_pair, KeepsIf, pair_cmp, SameHoldings, size, Tidies, TidiesIf};
     ghost use Rattle.lock_server.specs.OpeningsView.{IsAbove, through_at};
     ghost use Rattle.lock_server.specs.TableView.{table_state};
 
@@ -35,7 +34,7 @@ impl Holdings {
         ensures { (owner file : ℕ) → keeps result owner file ≡ false }
     {
         Holdings {
-            pairs: BTreeSet::new(alloc),
+            pairs: BlockMap::new(alloc),
         }
     }
 
@@ -46,7 +45,7 @@ impl Holdings {
         ensures ok { OnOk result (Keeps self.old self.new owner file true) }
         ensures err { OnErr result (SameHoldings self.old self.new) }
     {
-        self.pairs.insert((owner, file))?;
+        self.pairs.insert((owner, file), ())?;
         Ok(())
     }
 
@@ -69,7 +68,7 @@ impl Holdings {
         ensures keeps { Keeps self.old self.new owner file false }
         ensures fewer { keeps self.old owner file ≡ true → size self.new < size self.old }
     {
-        self.pairs.remove(&(owner, file));
+        self.pairs.remove((owner, file));
     }
 
     /// The owner isn't kept with the file any more, where it has nothing left there. It takes no memory.
@@ -119,12 +118,12 @@ impl Holdings {
     /// The first pair from this bound on.
     fn next_pair(&self, from: Bound<(u64, u64)>) -> Option<(u64, u64)>
         ensures from { IfSome result (IsFromStart pair_cmp from) }
-        ensures kept { IfSome result (λ found. IsTrue (contains pair_cmp self.now.pairs found)) }
-        ensures least { IfSome result (λ found. (other : ℕ × ℕ) → IsFromStart pair_cmp from other → IsTrue (contains pair_cmp self.now.pairs other)
+        ensures kept { IfSome result (λ found. IsTrue (keeps_pair self.now found)) }
+        ensures least { IfSome result (λ found. (other : ℕ × ℕ) → IsFromStart pair_cmp from other → IsTrue (keeps_pair self.now other)
             → IsLeBy pair_cmp found other) }
-        ensures none { IfNone result ((other : ℕ × ℕ) → IsFromStart pair_cmp from other → contains pair_cmp self.now.pairs other ≡ false) }
+        ensures none { IfNone result ((other : ℕ × ℕ) → IsFromStart pair_cmp from other → keeps_pair self.now other ≡ false) }
     {
-        Some(*self.pairs.range((from, Bound::Unbounded)).next()?)
+        self.pairs.first_from(from)
     }
 }
 

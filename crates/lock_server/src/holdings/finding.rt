@@ -43,21 +43,18 @@ impl Holdings {
         let mut known: usize = 0;
         let mut pairs: usize = 0;
         let mut last = None;
-        for (owner, _) in self
-            .pairs
-            .range((behind(owners.first, None), Bound::Unbounded))
-        {
-            if owners.last < *owner {
+        for (&(owner, _), _) in self.pairs.iter_from(behind(owners.first, None)) {
+            if owner > owners.last {
                 return true;
             }
             if pairs == files {
                 return false;
             }
             pairs += 1;
-            if last != Some(*owner) {
+            if last != Some(owner) {
                 known += 1;
             }
-            last = Some(*owner);
+            last = Some(owner);
             if files < known.saturating_mul(pairs) {
                 return false;
             }
