@@ -16,7 +16,7 @@ nodes_of node = node.left.nodes + 1 + node.right.nodes
 
 -- by how many items the blocks of a node and of its sides exceed what a part of a split block may have
 abbrev pub excess_of : {T S : Type 0} → Node T S → ℕ
-excess_of node = node.left.excess + (length node.block - 12) + node.right.excess
+excess_of node = node.left.excess + (length node.block - 48) + node.right.excess
 
 -- what stands behind a link
 abbrev pub parts_behind : {T S : Type 0} → Link T S → Parts T

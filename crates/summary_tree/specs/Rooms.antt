@@ -4,11 +4,11 @@ use Rattle.summary_tree.specs.Contents.{Parts}
 
 -- how many puts fewer the place of a tree's first item holds, where no node is kept for it
 abbrev pub first_cost : {X N : Type 0} → List X → Option N → ℕ
-first_cost [] None = 4
+first_cost [] None = 16
 first_cost [] (Some node) = 0
 first_cost (x ∷ xs) kept = 0
 
--- there is a place for each item that there is room for, or one for each five of these and of the items that blocks have in excess:
--- a block takes five items or more from one split to the next
+-- there is a place for each item that there is room for, or one for each 17 of these and of the items that blocks have in excess:
+-- a block takes 17 items or more from one split to the next
 abbrev pub IsHeld : {X N : Type 0} → Parts X → Option N → ℕ → ℕ → Type 0
-IsHeld parts kept room places = (room ≤ places) ⊎ (parts.excess + first_cost parts.items kept + room ≤ 5 * places)
+IsHeld parts kept room places = (room ≤ places) ⊎ (parts.excess + first_cost parts.items kept + room ≤ 17 * places)

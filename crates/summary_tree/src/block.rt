@@ -1,5 +1,5 @@
 //! Items that lie side by side.
-ghost use Rattle.std.specs.Prelude.{◌≡◌, ◌+◌, ◌-◌, ◌<◌, ◌≤◌, [], ◌∷◌, ◌++◌, length, take, drop, true, None, Some, IfOk, slice_index_or, List};
+ghost use Rattle.std.specs.Prelude.{◌≡◌, ◌+◌, ◌-◌, ◌<◌, ◌≤◌, [], ◌∷◌, ◌++◌, length, take, drop, true, None, Some, IfOk, slice_index_or, slice_set, List};
 ghost use Rattle.std.specs.List.{find, last_or, position_or_len, insert, remove};
 ghost use Rattle.summary_tree.specs.Cuts.{before, both, first_passes, last_passes, put_before, with_first, without_first};
 
@@ -21,7 +21,7 @@ impl<T: Copy, S: Summary<T> + Copy> Model for Block<T, S> {
 
     ghost view = { λ a. a.items.items };
 
-    ghost invariant = { λ a. S.tells a.summary a.items.items × (16 ≤ vec_capacity a.items) × (vec_len a.items ≤ 16) };
+    ghost invariant = { λ a. S.tells a.summary a.items.items × (64 ≤ vec_capacity a.items) × (vec_len a.items ≤ 64) };
 }
 
 impl<T: Copy, S: Summary<T> + Copy> Block<T, S> {
@@ -39,14 +39,14 @@ impl<T: Copy, S: Summary<T> + Copy> Block<T, S> {
     /// How many items there are.
     pub(crate) fn len(&self) -> usize
         ensures len { result ≡ length self.now }
-        ensures few { result ≤ 16 }
+        ensures few { result ≤ 64 }
     {
         self.items.len()
     }
 
     /// How many items there are beyond those that a part of a split block may have.
     pub(crate) fn excess(&self) -> u64
-        ensures { result ≡ length self.now - 12 }
+        ensures { result ≡ length self.now - 48 }
     {
         self.items.len().saturating_sub(PART) as u64
     }
@@ -176,7 +176,7 @@ impl<T: Copy, S: Summary<T> + Copy> Block<T, S> {
     /// Puts an item in before the first that stands at a place or behind it.
     #[tactic(auto, using(crate::proofs::Splits::put_at_place, crate::proofs::Splits::length_put, crate::proofs::Splits::place_le))]
     pub(crate) fn put<C: Cut<T>>(&mut self, cut: &C, item: T)
-        requires { length self.old < 16 }
+        requires { length self.old < 64 }
         ensures items { self.new ≡ put_before (C.is_behind cut.now) item self.old }
         ensures count { length self.new ≡ length self.old + 1 }
     {
@@ -187,14 +187,14 @@ impl<T: Copy, S: Summary<T> + Copy> Block<T, S> {
     /// The same where there is no room: some of the items go into an empty block.
     #[tactic(auto, using(crate::proofs::Splits::put_at_place, crate::proofs::Splits::length_put, crate::proofs::Splits::place_le))]
     pub(crate) fn put_in_full<C: Cut<T>>(&mut self, cut: &C, item: T, next: &mut Self)
-        requires full { length self.old ≡ 16 }
+        requires full { length self.old ≡ 64 }
         requires empty { next.old ≡ [] }
         ensures items { self.new ++ next.new ≡ put_before (C.is_behind cut.now) item self.old }
-        ensures count { length self.new + length next.new ≡ 17 }
+        ensures count { length self.new + length next.new ≡ 65 }
         ensures filled { 0 < length self.new }
         ensures next { 0 < length next.new }
-        ensures few { length self.new ≤ 12 }
-        ensures few_next { length next.new ≤ 12 }
+        ensures few { length self.new ≤ 48 }
+        ensures few_next { length next.new ≤ 48 }
     {
         let place = self.place_of(cut);
         self.insert_in_full(place, item, next);
@@ -203,7 +203,7 @@ impl<T: Copy, S: Summary<T> + Copy> Block<T, S> {
     /// Puts an item before the one that stands at a place.
     fn insert(&mut self, place: usize, item: T)
         requires place { place ≤ length self.old }
-        requires room { length self.old < 16 }
+        requires room { length self.old < 64 }
         ensures { self.new ≡ insert self.old place item }
     {
         self.items.insert(place, item).unwrap();
@@ -213,13 +213,13 @@ impl<T: Copy, S: Summary<T> + Copy> Block<T, S> {
     /// The same where there is no room: some of the items go into an empty block.
     fn insert_in_full(&mut self, place: usize, item: T, next: &mut Self)
         requires place { place ≤ length self.old }
-        requires full { length self.old ≡ 16 }
+        requires full { length self.old ≡ 64 }
         requires empty { next.old ≡ [] }
         ensures items { self.new ++ next.new ≡ insert self.old place item }
         ensures filled { 0 < length self.new }
         ensures next { 0 < length next.new }
-        ensures few { length self.new ≤ 12 }
-        ensures few_next { length next.new ≤ 12 }
+        ensures few { length self.new ≤ 48 }
+        ensures few_next { length next.new ≤ 48 }
     {
         let middle = middle_for(place);
         self.move_from(middle, next);
@@ -262,9 +262,23 @@ impl<T: Copy, S: Summary<T> + Copy> Block<T, S> {
         ensures count { length self.new ≡ length self.old }
     {
         let place = self.place_of(cut);
+        self.swap(place, item)
+    }
+
+    /// Puts another item in place of the one that stands at a place, and hands that one out.
+    fn swap(&mut self, place: usize, item: T) -> T
+        requires { place < length self.old }
+        ensures item { result ≡ slice_index_or self.old place result }
+        ensures items { self.new ≡ slice_set self.old place item }
+    {
         let replaced = self.items[place];
+        let stays = self.summary.leave(&replaced);
         self.items[place] = item;
-        self.summary = summary_of(&self.items);
+        if stays {
+            self.summary.add(&item);
+        } else {
+            self.summary = summary_of(&self.items);
+        }
         replaced
     }
 
@@ -293,10 +307,10 @@ impl<T: Copy, S: Summary<T> + Copy> Block<T, S> {
 /// Where a full block is split that gets an item at a place: in halves, but where the place is near an end, beside it, so that
 /// items that come in order leave fuller blocks behind.
 fn middle_for(place: usize) -> usize
-    ensures front { 4 ≤ result }
-    ensures back { result ≤ 12 }
-    ensures in_front { place ≤ result → result < 12 }
-    ensures behind { result < place → 4 < result }
+    ensures front { 16 ≤ result }
+    ensures back { result ≤ 48 }
+    ensures in_front { place ≤ result → result < 48 }
+    ensures behind { result < place → 16 < result }
 {
     if place > PART {
         PART

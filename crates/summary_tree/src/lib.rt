@@ -15,13 +15,13 @@ mod tree;
 pub use tree::Tree;
 
 /// How many items a block holds at most.
-const BLOCK: usize = 16;
+const BLOCK: usize = 64;
 
 /// How many items each part of a full block has at most that was split for one more.
-const PART: usize = 12;
+const PART: usize = 48;
 
 /// How many items are put into such a part until it is split, or more.
-const PUTS: u64 = 5;
+const PUTS: u64 = 17;
 
 /// What is kept of the items of a subtree.
 pub trait Summary<T> {

@@ -202,7 +202,7 @@ impl<T: Copy, S: Summary<T> + Copy> Tree<T, S> {
 /// How many places hold room for so many items more, beside blocks of this excess: one for each at most.
 fn places_for(excess: u64, count: u64) -> u64
     requires { excess + count < 2 ^ 64 }
-    ensures held { (count ≤ result) ⊎ (excess + 4 + count ≤ 5 * result) }
+    ensures held { (count ≤ result) ⊎ (excess + 16 + count ≤ 17 * result) }
     ensures few { result ≤ count }
 {
     count.min((excess + count) / PUTS + 2)

@@ -175,8 +175,8 @@ fn rise(rt: &impl Abort, tree: &mut Tree<u64, Total>) -> Result<(), Memory> {
 /// What the tree then tells.
 fn tells_of_all(rt: &impl Abort, tree: &Tree<u64, Total>) {
     same(rt, tree.len(), 20000);
-    // In 1,666 nodes, since a full block leaves 12 behind: the logarithm of 1,667 to the base 4/3 is 25.8.
-    assert!(rt; tree.depth() <= 25);
+    // In 417 nodes, since a full block leaves 48 behind: the logarithm of 418 to the base 4/3 is 20.98.
+    assert!(rt; tree.depth() <= 20);
     same(rt, tree.first_where(&From(17777)), Some(17777));
     same(rt, tree.first_where(&From(20000)), None);
     let total = Total {
@@ -215,8 +215,8 @@ fn falling_numbers_in_room_that_is_held(rt: HostRuntime) -> Result<(), Fail> {
     let tree: &mut Tree<u64, Total> = &mut Tree::new(rt.alloc());
     tree.reserve(3000)?;
     fall(&rt, tree, 3000);
-    // In 250 nodes: the logarithm of 251 to the base 4/3 is 19.2.
-    assert!(rt; tree.depth() <= 19);
+    // In 63 nodes: the logarithm of 64 to the base 4/3 is 14.5.
+    assert!(rt; tree.depth() <= 14);
     finds_each(&rt, tree);
     pop_all(&rt, tree, 3000);
     Ok(())
