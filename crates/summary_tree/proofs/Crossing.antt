@@ -5,6 +5,8 @@ use denote.Param.Send.{sendable, IsSend}
 use Rattle.std.proofs.Crossing.{Box-send, Vec-send}
 use Rattle.summary_tree.specs.declared.Summary.{Ghosts}
 use Rattle.summary_tree.specs.contracts.block.Block as block
+use Rattle.summary_tree.specs.contracts.few.Few as few
+use Rattle.summary_tree.specs.contracts.many.Many as many
 use Rattle.summary_tree.specs.contracts.subtree.Node as node
 use Rattle.summary_tree.specs.contracts.subtree.Subtree as subtree
 use Rattle.summary_tree.specs.contracts.tree.Tree as tree
@@ -20,5 +22,11 @@ module _ (T S : RattleType) (g : Ghosts S.Denot T.Denot) (send-T : IsSend T) (se
   node_send : IsSend (node.the_row T S g)
   node_send = search (sendable, block_send, subtree_send) depth 20
 
+  few_send : IsSend (few.the_row T)
+  few_send = search (sendable, Vec-send) depth 20
+
+  many_send : IsSend (many.the_row T S g)
+  many_send = search (sendable, Box-send, Vec-send, node_send, subtree_send) depth 20
+
   pub tree_send : IsSend (tree.the_row T S g)
-  tree_send = search (sendable, Box-send, Vec-send, node_send, subtree_send) depth 20
+  tree_send = search (sendable, few_send, many_send) depth 20

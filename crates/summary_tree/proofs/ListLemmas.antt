@@ -1,10 +1,12 @@
 -- Facts on lists and tests.
-use Rattle.std.proofs.Common.{◌≡◌, ◌≢◌, suc, ◌-◌, ◌<◌, Bool, true, false, cond, ◌||◌, Option, Some, None, List, [], ◌∷◌, ◌++◌, length, slice_index_or, refl, ap, ◌∙◌, arith}
-use Rattle.std.specs.List.{find, last_or, list_any, slice_get}
+use Rattle.std.proofs.Common.{◌≡◌, ◌≢◌, ℕ, suc, ◌-◌, ◌<◌, Bool, true, false, cond, ◌||◌, Option, Some, None, List, [], ◌∷◌, ◌++◌, length, slice_index_or, refl, sym, ap, ◌∙◌, arith}
+use Rattle.std.specs.List.{find, last_or, list_any, position_or_len, slice_get}
 use Rattle.std.specs.Option.{option_or}
 use Rattle.std.proofs.lemmas.List.{length-append}
-use Rattle.std.proofs.lemmas.List.Folds.{find-append}
-use Rattle.summary_tree.specs.Cuts.{last_passes, without_first}
+use Rattle.std.proofs.lemmas.List.Folds.{find-append, find_at}
+use Rattle.std.proofs.lemmas.Option.{slice_get-get_or, slice_get_past}
+use Rattle.summary_tree.specs.Contents.{Contents}
+use Rattle.summary_tree.specs.Cuts.{last_passes, with_first, without_first}
 
 none_found_at : {X : Type 0} (p : X → Bool) (x : X) (xs : List X) (b : Bool) → (b || list_any p xs) ≡ false → (list_any p xs ≡ false → find p xs ≡ None) → cond b (Some x) (find p xs) ≡ None
 none_found_at p x xs true h f = absurd (cc)
@@ -74,6 +76,27 @@ stays_at false y ys rest found h f = ap (λ zs. y ∷ zs) (f h)
 pub all_stay : {X : Type 0} (p : X → Bool) (xs : List X) → find p xs ≡ None → without_first p xs ≡ xs
 all_stay p [] h = refl
 all_stay p (y ∷ ys) h = stays_at (p y) y ys (without_first p ys) (find p ys) h (all_stay p ys)
+
+kept_at : {X : Type 0} (b : Bool) (x y : X) (ys rest : List X) (found : Option X) → cond b (Some y) found ≡ None → (found ≡ None → rest ≡ ys) → cond b (x ∷ ys) (y ∷ rest) ≡ y ∷ ys
+kept_at true x y ys rest found h f = absurd (cc)
+kept_at false x y ys rest found h f = ap (λ zs. y ∷ zs) (f h)
+
+-- and none is replaced
+pub all_kept : {X : Type 0} (p : X → Bool) (x : X) (xs : List X) → find p xs ≡ None → with_first p x xs ≡ xs
+all_kept p x [] h = refl
+all_kept p x (y ∷ ys) h = kept_at (p y) x y ys (with_first p x ys) (find p ys) h (all_kept p x ys)
+
+-- so it is where the place is the end
+pub none_at_end : {X : Type 0} (p : X → Bool) (xs : List X) → position_or_len p xs ≡ length xs → find p xs ≡ None
+none_at_end p xs end = find_at p xs ∙ slice_get_past xs (position_or_len p xs) (omega (arith, end))
+
+-- elsewhere it is that of the first that passes
+pub found_at : {X : Type 0} (p : X → Bool) (xs : List X) (n : ℕ) (x : X) → n ≡ position_or_len p xs → n < length xs → x ≡ slice_index_or xs n x → Some x ≡ find p xs
+found_at p xs n x at within is = sym (find_at p xs ∙ (ap (slice_get xs) (sym at) ∙ (slice_get-get_or xs n x within ∙ ap Some (sym is))))
+
+-- the items of what a tree stands for
+abbrev pub items_in : {X : Type 0} → Contents X → List X
+items_in contents = contents.items
 
 -- the item that stands at the end is the last
 pub last_there : {X : Type 0} (o : Option X) (x : X) (xs : List X) → slice_get (x ∷ xs) (length xs) ≡ last_or o (x ∷ xs)

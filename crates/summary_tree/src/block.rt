@@ -3,7 +3,7 @@ ghost use Rattle.std.specs.Prelude.{◌≡◌, ◌+◌, ◌-◌, ◌<◌, ◌≤
 ghost use Rattle.std.specs.List.{find, last_or, position_or_len, insert, remove};
 ghost use Rattle.summary_tree.specs.Cuts.{before, both, first_passes, last_passes, put_before, with_first, without_first};
 
-use crate::{BLOCK, Cut, PART, Query, Summary, Walk};
+use crate::{BLOCK, Cut, PART, Query, Summary, Walk, slices};
 use std::alloc::{AllocError, Global};
 use std::marker::Model;
 
@@ -65,12 +65,7 @@ impl<T: Copy, S: Summary<T> + Copy> Block<T, S> {
         if !query.may_hit(&self.summary) {
             return None;
         }
-        for item in &self.items {
-            if query.hits(item) {
-                return Some(*item);
-            }
-        }
-        None
+        slices::first_where(&self.items, query)
     }
 
     /// The first item from a place on that is looked for.
@@ -81,31 +76,21 @@ impl<T: Copy, S: Summary<T> + Copy> Block<T, S> {
     ) -> Option<T>
         ensures { result ≡ find (both (C.is_behind cut.now) (Q.hits query.now)) self.now }
     {
-        for item in &self.items {
-            if cut.is_behind(item) && query.hits(item) {
-                return Some(*item);
-            }
-        }
-        None
+        slices::first_where_from(&self.items, cut, query)
     }
 
     /// The first item from a place on.
     pub(crate) fn first_from<C: Cut<T>>(&self, cut: &C) -> Option<T>
         ensures { result ≡ find (C.is_behind cut.now) self.now }
     {
-        for item in &self.items {
-            if cut.is_behind(item) {
-                return Some(*item);
-            }
-        }
-        None
+        slices::first_from(&self.items, cut)
     }
 
     /// The last item.
     pub(crate) fn last(&self) -> Option<T>
         ensures { result ≡ last_or None self.now }
     {
-        self.items.last().copied()
+        slices::last(&self.items)
     }
 
     /// Gathers from all items.
@@ -115,9 +100,7 @@ impl<T: Copy, S: Summary<T> + Copy> Block<T, S> {
         if walk.see_all(found, &self.summary) {
             return;
         }
-        for item in &self.items {
-            walk.see(found, item);
-        }
+        slices::walk(&self.items, walk, found);
     }
 
     /// Gathers from the items before a place.
@@ -129,24 +112,14 @@ impl<T: Copy, S: Summary<T> + Copy> Block<T, S> {
     )
         ensures { (seen : List T) → W.gathers walk.now found.old seen → W.gathers walk.now found.new (seen ++ before (C.is_behind cut.now) self.now) }
     {
-        for item in &self.items {
-            if cut.is_behind(item) {
-                return;
-            }
-            walk.see(found, item);
-        }
+        slices::walk_before(&self.items, cut, walk, found);
     }
 
     /// How many items stand before the first that stands at a place or behind it.
-    pub(crate) fn place_of<C: Cut<T>>(&self, cut: &C) -> usize
+    fn place_of<C: Cut<T>>(&self, cut: &C) -> usize
         ensures { result ≡ position_or_len (C.is_behind cut.now) self.now }
     {
-        for (place, item) in self.items.iter().enumerate() {
-            if cut.is_behind(item) {
-                return place;
-            }
-        }
-        self.items.len()
+        slices::place_of(&self.items, cut)
     }
 
     /// Whether the first item stands at a place or behind it.
@@ -171,6 +144,16 @@ impl<T: Copy, S: Summary<T> + Copy> Block<T, S> {
         ensures { self.new ≡ item ∷ [] }
     {
         self.insert(0, item);
+    }
+
+    /// Puts items into an empty block.
+    pub(crate) fn fill(&mut self, items: &[T])
+        requires empty { self.old ≡ [] }
+        requires few { length items.now ≤ 64 }
+        ensures { self.new ≡ items.now }
+    {
+        self.items.extend_from_slice(items).unwrap();
+        self.summary = summary_of(&self.items);
     }
 
     /// Puts an item in before the first that stands at a place or behind it.
@@ -297,8 +280,7 @@ impl<T: Copy, S: Summary<T> + Copy> Block<T, S> {
         ensures front { self.new ≡ take place self.old }
         ensures back { next.new ≡ drop place self.old }
     {
-        next.items.extend_from_slice(&self.items[place..]).unwrap();
-        next.summary = summary_of(&next.items);
+        next.fill(&self.items[place..]);
         self.items.truncate(place);
         self.summary = summary_of(&self.items);
     }

@@ -8,7 +8,10 @@ ghost use Rattle.std.specs.Prelude.{◌≡◌, Bool, true, false, List, [], ◌�
 ghost use Rattle.std.specs.List.{list_any};
 
 mod block;
+mod few;
+mod many;
 mod places;
+mod slices;
 mod subtree;
 mod tree;
 

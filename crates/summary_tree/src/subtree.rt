@@ -8,7 +8,7 @@ mod changing;
 
 use crate::block::Block;
 use crate::{Cut, Query, Summary, Walk};
-pub(crate) use changing::of_one;
+pub(crate) use changing::{of_items, of_one};
 use std::marker::Model;
 
 /// A list of items in nodes, seen as that list, the number of nodes, and the excess of their blocks.

@@ -1,39 +1,38 @@
 //! The tree as others see it.
-ghost use Rattle.std.specs.Prelude.{◌≡◌, ◌+◌, ◌*◌, ◌<◌, ◌≤◌, ◌⊎◌, ◌^◌, [], ◌++◌, List, None, length, IsOk, OnOk, OnErr};
+ghost use Rattle.std.specs.Prelude.{◌≡◌, ◌+◌, ◌*◌, ◌<◌, ◌≤◌, ◌^◌, [], ◌++◌, List, None, length, IsOk, OnOk, OnErr};
 ghost use Rattle.std.specs.List.{find, last_or};
 ghost use Rattle.summary_tree.specs.Cuts.{before, both, IsCutBy, put_before, with_first, without_first};
 
-use crate::places::Places;
-use crate::subtree::{Node, Subtree, of_one};
-use crate::{Cut, PUTS, Query, Summary, Walk};
-use range_core::{Memory, counted};
+use crate::few::Few;
+use crate::many::Many;
+use crate::{Cut, Query, Summary, Walk, slices};
+use range_core::Memory;
 use std::alloc::Global;
 use std::marker::Model;
-use std::mem;
 
 /// A list of items, and room for more.
 ///
 /// Nothing but [`Tree::reserve`] takes memory. It knows of no order: an item stands where a [`Cut`] puts it.
 #[derive(Drop)]
 pub struct Tree<T: Copy, S: Summary<T> + Copy> {
-    items: Subtree<T, S>,
-    /// For how many more items room is held, however many places there are.
-    room: u64,
-    places: Places<T, S>,
-    /// The node of the last item that was taken out, for the first one to come.
-    kept: Option<Box<Node<T, S>>>,
+    items: Items<T, S>,
+    alloc: Global,
+}
+
+/// As many items as a block takes stand side by side; once more were to come, they are in nodes.
+#[derive(Drop)]
+enum Items<T: Copy, S: Summary<T> + Copy> {
+    Few(Few<T>),
+    Many(Many<T, S>),
 }
 
 impl<T: Copy, S: Summary<T> + Copy> Model for Tree<T, S> {
-    ghost use Rattle.std.specs.Prelude.{◌≡◌, ◌+◌, ◌<◌, ◌^◌, [], IfSome, length};
     ghost use Rattle.summary_tree.specs.Contents.{Contents};
-    ghost use Rattle.summary_tree.specs.Rooms.{IsHeld};
+    ghost use Rattle.summary_tree.specs.Items.{contents_of};
 
     ghost Value = { Contents T };
 
-    ghost view = { λ a. record { items = a.items.items; room = a.room } };
-
-    ghost invariant = { λ a. IsHeld a.items a.kept a.room a.places × (length a.items.items + a.room < 2 ^ 64) × IfSome a.kept (λ node. node.value.block ≡ []) };
+    ghost view = { λ a. contents_of a.items };
 }
 
 impl<T: Copy, S: Summary<T> + Copy> Tree<T, S> {
@@ -43,10 +42,8 @@ impl<T: Copy, S: Summary<T> + Copy> Tree<T, S> {
         ensures room { result.room ≡ 0 }
     {
         Tree {
-            items: Subtree::new(),
-            room: 0,
-            places: Places::new(alloc),
-            kept: None,
+            items: Items::Few(Few::new(alloc)),
+            alloc,
         }
     }
 
@@ -54,30 +51,40 @@ impl<T: Copy, S: Summary<T> + Copy> Tree<T, S> {
     pub fn len(&self) -> u64
         ensures { result ≡ length self.now.items }
     {
-        self.items.len()
+        match &self.items {
+            Items::Few(few) => few.items().len() as u64,
+            Items::Many(many) => many.len(),
+        }
     }
 
     /// For how many more items there is room.
     pub fn room(&self) -> u64
         ensures { result ≡ self.now.room }
     {
-        self.room
+        match &self.items {
+            Items::Few(few) => few.room(),
+            Items::Many(many) => many.room(),
+        }
     }
 
     /// How many nodes the longest way down goes through: their logarithm to the base 4/3 at most.
     pub fn depth(&self) -> u64
         ensures { 4 ^ result ≤ 3 ^ result * (length self.now.items + 1) }
     {
-        // The proof reads from it that there are no more nodes than items.
-        let nodes = self.items.nodes();
-        self.items.depth()
+        match &self.items {
+            Items::Few(_) => 0,
+            Items::Many(many) => many.depth(),
+        }
     }
 
     /// The first item that is looked for.
     pub fn first_where<Q: Query<T, S>>(&self, query: &Q) -> Option<T>
         ensures { result ≡ find (Q.hits query.now) self.now.items }
     {
-        self.items.first_where(query)
+        match &self.items {
+            Items::Few(few) => slices::first_where(few.items(), query),
+            Items::Many(many) => many.first_where(query),
+        }
     }
 
     /// The first item from a place on.
@@ -85,14 +92,20 @@ impl<T: Copy, S: Summary<T> + Copy> Tree<T, S> {
         requires { IsCutBy (C.is_behind cut.now) self.now.items }
         ensures { result ≡ find (C.is_behind cut.now) self.now.items }
     {
-        self.items.first_from(cut)
+        match &self.items {
+            Items::Few(few) => slices::first_from(few.items(), cut),
+            Items::Many(many) => many.first_from(cut),
+        }
     }
 
     /// The last item.
     pub fn last(&self) -> Option<T>
         ensures { result ≡ last_or None self.now.items }
     {
-        self.items.last()
+        match &self.items {
+            Items::Few(few) => slices::last(few.items()),
+            Items::Many(many) => many.last(),
+        }
     }
 
     /// The first item from a place on that is looked for.
@@ -100,14 +113,20 @@ impl<T: Copy, S: Summary<T> + Copy> Tree<T, S> {
         requires { IsCutBy (C.is_behind cut.now) self.now.items }
         ensures { result ≡ find (both (C.is_behind cut.now) (Q.hits query.now)) self.now.items }
     {
-        self.items.first_where_from(cut, query)
+        match &self.items {
+            Items::Few(few) => slices::first_where_from(few.items(), cut, query),
+            Items::Many(many) => many.first_where_from(cut, query),
+        }
     }
 
     /// Gathers from all items, in order.
     pub fn walk<F, W: Walk<T, S, F>>(&self, walk: &W, found: &mut F)
         ensures { (seen : List T) → W.gathers walk.now found.old seen → W.gathers walk.now found.new (seen ++ self.now.items) }
     {
-        self.items.walk(walk, found)
+        match &self.items {
+            Items::Few(few) => slices::walk(few.items(), walk, found),
+            Items::Many(many) => many.walk(walk, found),
+        }
     }
 
     /// Gathers from the items before a place, in order.
@@ -115,7 +134,10 @@ impl<T: Copy, S: Summary<T> + Copy> Tree<T, S> {
         requires { IsCutBy (C.is_behind cut.now) self.now.items }
         ensures { (seen : List T) → W.gathers walk.now found.old seen → W.gathers walk.now found.new (seen ++ before (C.is_behind cut.now) self.now.items) }
     {
-        self.items.walk_before(cut, walk, found)
+        match &self.items {
+            Items::Few(few) => slices::walk_before(few.items(), cut, walk, found),
+            Items::Many(many) => many.walk_before(cut, walk, found),
+        }
     }
 
     /// Holds room for so many more items in all, counting the room already there.
@@ -128,13 +150,15 @@ impl<T: Copy, S: Summary<T> + Copy> Tree<T, S> {
         ensures there { count ≤ self.old.room → IsOk result }
         ensures err { OnErr result (self.new.room ≡ self.old.room) }
     {
-        if self.room < count {
-            counted(self.items.len(), count)?;
-            let places = places_for(self.items.excess(), count);
-            self.places.grow(places)?;
-            self.room = count;
+        match &mut self.items {
+            Items::Few(few) => {
+                if let Some(many) = few.grow(self.alloc, count)? {
+                    self.items = Items::Many(many);
+                }
+                Ok(())
+            }
+            Items::Many(many) => many.reserve(count),
         }
-        Ok(())
     }
 
     /// Puts an item in before the first that stands at a place or behind it, and uses up room for one. It takes no memory.
@@ -144,15 +168,10 @@ impl<T: Copy, S: Summary<T> + Copy> Tree<T, S> {
         ensures items { self.new.items ≡ put_before (C.is_behind cut.now) item self.old.items }
         ensures room { self.new.room + 1 ≡ self.old.room }
     {
-        if self.items.len() == 0 {
-            if let Some(node) = mem::replace(&mut self.kept, None) {
-                self.items = of_one(item, node);
-                self.room -= 1;
-                return;
-            }
+        match &mut self.items {
+            Items::Few(few) => few.put(cut, item),
+            Items::Many(many) => many.put(cut, item),
         }
-        self.items.put(cut, item, &mut self.places);
-        self.room -= 1;
     }
 
     /// Takes out the first item that stands at a place or behind it; the room stays. It takes no memory.
@@ -162,10 +181,10 @@ impl<T: Copy, S: Summary<T> + Copy> Tree<T, S> {
         ensures rest { self.new.items ≡ without_first (C.is_behind cut.now) self.old.items }
         ensures room { self.new.room ≡ self.old.room }
     {
-        if self.items.len() == 1 {
-            return self.take_only(cut);
+        match &mut self.items {
+            Items::Few(few) => few.take(cut),
+            Items::Many(many) => many.take(cut),
         }
-        self.items.take(cut)
     }
 
     /// Puts another item in place of the first that stands at a place or behind it, and hands that one out; the room stays. It
@@ -176,34 +195,9 @@ impl<T: Copy, S: Summary<T> + Copy> Tree<T, S> {
         ensures items { self.new.items ≡ with_first (C.is_behind cut.now) item self.old.items }
         ensures room { self.new.room ≡ self.old.room }
     {
-        self.items.replace(cut, item)
+        match &mut self.items {
+            Items::Few(few) => few.replace(cut, item),
+            Items::Many(many) => many.replace(cut, item),
+        }
     }
-
-    /// Takes out the only item, if it stands at a place or behind it, and keeps its node.
-    fn take_only<C: Cut<T>>(&mut self, cut: &C) -> Option<T>
-        requires cut { IsCutBy (C.is_behind cut.now) self.old.items }
-        requires only { length self.old.items ≡ 1 }
-        ensures item { result ≡ find (C.is_behind cut.now) self.old.items }
-        ensures rest { self.new.items ≡ without_first (C.is_behind cut.now) self.old.items }
-        ensures room { self.new.room ≡ self.old.room }
-    {
-        // The proof reads from it that there is a node.
-        let nodes = self.items.nodes();
-        let Some(item) = self.items.first_from(cut) else {
-            return None;
-        };
-        let mut node = self.items.take_first();
-        node.block.clear();
-        self.kept = Some(node);
-        Some(item)
-    }
-}
-
-/// How many places hold room for so many items more, beside blocks of this excess: one for each at most.
-fn places_for(excess: u64, count: u64) -> u64
-    requires { excess + count < 2 ^ 64 }
-    ensures held { (count ≤ result) ⊎ (excess + 16 + count ≤ 17 * result) }
-    ensures few { result ≤ count }
-{
-    count.min((excess + count) / PUTS + 2)
 }

@@ -23,8 +23,8 @@ const FEW_OWNERS: usize = 8;
 /// each time.
 const FEW_RUNS: u64 = 4;
 
-/// For how many runs an index has room: one for each process that may wait.
-const SPARE_RUNS: u64 = 64;
+/// For how many more runs an index has room: for so few that one of some dozens is still a list.
+const SPARE_RUNS: u64 = 32;
 
 /// The runs of all owners of a file, or none: it is a help and no more, and where its memory is refused there is none.
 ///

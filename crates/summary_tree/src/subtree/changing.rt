@@ -119,7 +119,7 @@ impl<T: Copy, S: Summary<T> + Copy> Subtree<T, S> {
     }
 
     /// Puts a node in before all others.
-    fn put_first(&mut self, mut node: Box<Node<T, S>>)
+    fn put_first(&mut self, node: Box<Node<T, S>>)
         requires filled { 0 < length node.value.block }
         requires fits { length node.value.block + length self.old.items < 2 ^ 64 }
         ensures items { self.new.items ≡ node.value.block ++ self.old.items }
@@ -127,11 +127,7 @@ impl<T: Copy, S: Summary<T> + Copy> Subtree<T, S> {
         ensures excess { self.new.excess ≡ (length node.value.block - 48) + self.old.excess }
     {
         match mem::replace(&mut self.link, Link::Empty) {
-            Link::Empty => {
-                node.left = Subtree::new();
-                node.right = Subtree::new();
-                *self = whole(node);
-            }
+            Link::Empty => *self = alone(node),
             Link::Fork(mut top) => {
                 top.left.put_first(node);
                 *self = rebalanced(top);
@@ -160,6 +156,19 @@ impl<T: Copy, S: Summary<T> + Copy> Subtree<T, S> {
     }
 }
 
+/// The tree of a node without sides.
+fn alone<T: Copy, S: Summary<T> + Copy>(mut node: Box<Node<T, S>>) -> Subtree<T, S>
+    requires filled { 0 < length node.value.block }
+    requires fits { length node.value.block < 2 ^ 64 }
+    ensures items { result.items ≡ node.value.block }
+    ensures nodes { result.nodes ≡ 1 }
+    ensures excess { result.excess ≡ length node.value.block - 48 }
+{
+    node.left = Subtree::new();
+    node.right = Subtree::new();
+    whole(node)
+}
+
 /// The tree of one item, in an empty node.
 pub(crate) fn of_one<T: Copy, S: Summary<T> + Copy>(
     item: T,
@@ -170,10 +179,22 @@ pub(crate) fn of_one<T: Copy, S: Summary<T> + Copy>(
     ensures nodes { result.nodes ≡ 1 }
     ensures excess { result.excess ≡ 0 }
 {
-    node.left = Subtree::new();
-    node.right = Subtree::new();
     node.block.put_first(item);
-    whole(node)
+    alone(node)
+}
+
+/// The tree of some items, in an empty node.
+pub(crate) fn of_items<T: Copy, S: Summary<T> + Copy>(
+    items: &[T],
+    mut node: Box<Node<T, S>>,
+) -> Subtree<T, S>
+    requires empty { node.value.block ≡ [] }
+    requires some { 0 < length items.now }
+    requires few { length items.now ≤ 64 }
+    ensures { result.items ≡ items.now }
+{
+    node.block.fill(items);
+    alone(node)
 }
 
 /// Into which part of the node an item is put.

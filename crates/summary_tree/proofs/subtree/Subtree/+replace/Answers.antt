@@ -1,4 +1,4 @@
-use Rattle.std.proofs.Common.{◌≡◌, None, Option, Some, IfSome, List, [], ◌∷◌, ◌++◌, refl, ap, rules, subst, sym, ◌∙◌, arith}
+use Rattle.std.proofs.Common.{◌≡◌, None, Some, List, [], ◌∷◌, ◌++◌, refl, ap, rules, subst, sym, ◌∙◌, arith}
 use Rattle.std.specs.List.{find}
 use Rattle.summary_tree.specs.declared.subtree.Node.{Node}
 use Rattle.summary_tree.specs.Contents.{Parts}

@@ -1,7 +1,7 @@
 use Rattle.std.proofs.Common.{◌≡◌, ℕ, length, ap, arith}
 use Rattle.summary_tree.specs.Contents.{Contents}
 use Rattle.summary_tree.proofs.Depths.{no_deeper}
-use Rattle.summary_tree.proofs.tree.Tree.depth.Goals as goal
+use Rattle.summary_tree.proofs.many.Many.depth.Goals as goal
 
 abbrev count_of : {T : Type 0} → Contents T → ℕ
 count_of contents = length contents.items

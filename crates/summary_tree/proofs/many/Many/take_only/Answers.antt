@@ -1,11 +1,7 @@
-use Rattle.std.proofs.Common.{List, length, sym, ap, ◌∙◌}
+use Rattle.std.proofs.Common.{length, sym, ap, ◌∙◌}
 use Rattle.std.specs.List.{find}
-use Rattle.summary_tree.specs.Contents.{Contents}
-use Rattle.summary_tree.proofs.ListLemmas.{all_stay, only_taken, rest_is_none}
-use Rattle.summary_tree.proofs.tree.Tree.take_only.Goals as goal
-
-abbrev items_in : {T : Type 0} → Contents T → List T
-items_in contents = contents.items
+use Rattle.summary_tree.proofs.ListLemmas.{all_stay, items_in, only_taken, rest_is_none}
+use Rattle.summary_tree.proofs.many.Many.take_only.Goals as goal
 
 pub returns-in_default-clause-rest : goal.returns-in_default-clause-rest
 returns-in_default-clause-rest g c =

@@ -1,9 +1,0 @@
-use Rattle.std.proofs.Common.{◌≡◌, List, ◌++◌, take, drop}
-use Rattle.summary_tree.specs.Cuts.{before}
-use Rattle.summary_tree.proofs.block.Block.walk_before.Given as goal
-
-abbrev pub invariant-loop-item : goal.invariant-loop-item
-invariant-loop-item g l = record {
-  gathered : (seen : List g.row.T.Denot) → g.W.Walk.gathers l.walk l.initial.found seen → g.W.Walk.gathers l.walk l.found (seen ++ take l.item-index l.self);
-  before : before (g.C.Cut.is_behind l.cut) l.self ≡ take l.item-index l.self ++ before (g.C.Cut.is_behind l.cut) (drop l.item-index l.self);
-}

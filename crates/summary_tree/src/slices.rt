@@ -1,0 +1,98 @@
+//! What is asked of items that lie side by side.
+ghost use Rattle.std.specs.Prelude.{◌≡◌, ◌++◌, List, None};
+ghost use Rattle.std.specs.List.{find, last_or, position_or_len};
+ghost use Rattle.summary_tree.specs.Cuts.{before, both};
+
+use crate::{Cut, Query, Summary, Walk};
+
+/// The first item that is looked for.
+pub(crate) fn first_where<T: Copy, S: Summary<T>, Q: Query<T, S>>(
+    items: &[T],
+    query: &Q,
+) -> Option<T>
+    ensures { result ≡ find (Q.hits query.now) items.now }
+{
+    for item in items {
+        if query.hits(item) {
+            return Some(*item);
+        }
+    }
+    None
+}
+
+/// The first item from a place on that is looked for.
+pub(crate) fn first_where_from<T: Copy, S: Summary<T>, C: Cut<T>, Q: Query<T, S>>(
+    items: &[T],
+    cut: &C,
+    query: &Q,
+) -> Option<T>
+    ensures { result ≡ find (both (C.is_behind cut.now) (Q.hits query.now)) items.now }
+{
+    for item in items {
+        if cut.is_behind(item) && query.hits(item) {
+            return Some(*item);
+        }
+    }
+    None
+}
+
+/// The first item from a place on.
+pub(crate) fn first_from<T: Copy, C: Cut<T>>(items: &[T], cut: &C) -> Option<T>
+    ensures { result ≡ find (C.is_behind cut.now) items.now }
+{
+    for item in items {
+        if cut.is_behind(item) {
+            return Some(*item);
+        }
+    }
+    None
+}
+
+/// The last item.
+pub(crate) fn last<T: Copy>(items: &[T]) -> Option<T>
+    ensures { result ≡ last_or None items.now }
+{
+    items.last().copied()
+}
+
+/// Gathers from all items.
+pub(crate) fn walk<T: Copy, S: Summary<T>, F, W: Walk<T, S, F>>(
+    items: &[T],
+    walk: &W,
+    found: &mut F,
+)
+    ensures { (seen : List T) → W.gathers walk.now found.old seen → W.gathers walk.now found.new (seen ++ items.now) }
+{
+    for item in items {
+        walk.see(found, item);
+    }
+}
+
+/// Gathers from the items before a place.
+pub(crate) fn walk_before<T: Copy, S: Summary<T>, C: Cut<T>, F, W: Walk<T, S, F>>(
+    items: &[T],
+    cut: &C,
+    walk: &W,
+    found: &mut F,
+)
+    ensures { (seen : List T) → W.gathers walk.now found.old seen → W.gathers walk.now found.new (seen ++ before (C.is_behind cut.now) items.now) }
+{
+    for item in items {
+        if cut.is_behind(item) {
+            return;
+        }
+        walk.see(found, item);
+    }
+}
+
+/// How many items stand before the first that stands at a place or behind it.
+pub(crate) fn place_of<T: Copy, C: Cut<T>>(items: &[T], cut: &C) -> usize
+    ensures { result ≡ position_or_len (C.is_behind cut.now) items.now }
+{
+    for (place, item) in items.iter().enumerate() {
+        if cut.is_behind(item) {
+            return place;
+        }
+    }
+    items.len()
+}
