@@ -5,3 +5,4 @@ pub mod Items
 pub mod Nodes
 pub mod Rooms
 pub mod Sides
+pub mod Sizes

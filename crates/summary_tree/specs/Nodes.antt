@@ -4,6 +4,7 @@ use Rattle.summary_tree.specs.declared.subtree.Node.{Node}
 use Rattle.summary_tree.specs.declared.subtree.Link.{Link}
 use Rattle.summary_tree.specs.declared.subtree.Link.TheVariants.{Empty, Fork}
 use Rattle.summary_tree.specs.Balance.{IsBalanced}
+use Rattle.summary_tree.specs.Sizes.{part_size}
 use Rattle.summary_tree.specs.Contents.{Parts}
 
 -- the items of a node and of its sides, in order
@@ -16,7 +17,7 @@ nodes_of node = node.left.nodes + 1 + node.right.nodes
 
 -- by how many items the blocks of a node and of its sides exceed what a part of a split block may have
 abbrev pub excess_of : {T S : Type 0} → Node T S → ℕ
-excess_of node = node.left.excess + (length node.block - 48) + node.right.excess
+excess_of node = node.left.excess + (length node.block - part_size) + node.right.excess
 
 -- what stands behind a link
 abbrev pub parts_behind : {T S : Type 0} → Link T S → Parts T

@@ -2,6 +2,7 @@
 ghost use Rattle.std.specs.Prelude.{◌≡◌, ◌+◌, ◌-◌, ◌<◌, ◌≤◌, [], ◌∷◌, ◌++◌, length, take, drop, true, None, Some, IfOk, slice_index_or, slice_set, List};
 ghost use Rattle.std.specs.List.{find, last_or, position_or_len, insert, remove};
 ghost use Rattle.summary_tree.specs.Cuts.{before, both, first_passes, last_passes, put_before, with_first, without_first};
+ghost use Rattle.summary_tree.specs.Sizes.{block_size, part_size};
 
 use crate::{BLOCK, Cut, PART, Query, Summary, Walk, slices};
 use std::alloc::{AllocError, Global};
@@ -16,12 +17,13 @@ pub(crate) struct Block<T: Copy, S: Summary<T> + Copy> {
 
 impl<T: Copy, S: Summary<T> + Copy> Model for Block<T, S> {
     ghost use Rattle.std.specs.Prelude.{List, ◌≤◌, vec_len, vec_capacity};
+    ghost use Rattle.summary_tree.specs.Sizes.{block_size};
 
     ghost Value = { List T };
 
     ghost view = { λ a. a.items.items };
 
-    ghost invariant = { λ a. S.tells a.summary a.items.items × (64 ≤ vec_capacity a.items) × (vec_len a.items ≤ 64) };
+    ghost invariant = { λ a. S.tells a.summary a.items.items × (block_size ≤ vec_capacity a.items) × (vec_len a.items ≤ block_size) };
 }
 
 impl<T: Copy, S: Summary<T> + Copy> Block<T, S> {
@@ -39,14 +41,14 @@ impl<T: Copy, S: Summary<T> + Copy> Block<T, S> {
     /// How many items there are.
     pub(crate) fn len(&self) -> usize
         ensures len { result ≡ length self.now }
-        ensures few { result ≤ 64 }
+        ensures few { result ≤ block_size }
     {
         self.items.len()
     }
 
     /// How many items there are beyond those that a part of a split block may have.
     pub(crate) fn excess(&self) -> u64
-        ensures { result ≡ length self.now - 48 }
+        ensures { result ≡ length self.now - part_size }
     {
         self.items.len().saturating_sub(PART) as u64
     }
@@ -149,7 +151,7 @@ impl<T: Copy, S: Summary<T> + Copy> Block<T, S> {
     /// Puts items into an empty block.
     pub(crate) fn fill(&mut self, items: &[T])
         requires empty { self.old ≡ [] }
-        requires few { length items.now ≤ 64 }
+        requires few { length items.now ≤ block_size }
         ensures { self.new ≡ items.now }
     {
         self.items.extend_from_slice(items).unwrap();
@@ -159,7 +161,7 @@ impl<T: Copy, S: Summary<T> + Copy> Block<T, S> {
     /// Puts an item in before the first that stands at a place or behind it.
     #[tactic(auto, using(crate::proofs::Splits::put_at_place, crate::proofs::Splits::length_put, crate::proofs::Splits::place_le))]
     pub(crate) fn put<C: Cut<T>>(&mut self, cut: &C, item: T)
-        requires { length self.old < 64 }
+        requires { length self.old < block_size }
         ensures items { self.new ≡ put_before (C.is_behind cut.now) item self.old }
         ensures count { length self.new ≡ length self.old + 1 }
     {
@@ -170,14 +172,14 @@ impl<T: Copy, S: Summary<T> + Copy> Block<T, S> {
     /// The same where there is no room: some of the items go into an empty block.
     #[tactic(auto, using(crate::proofs::Splits::put_at_place, crate::proofs::Splits::length_put, crate::proofs::Splits::place_le))]
     pub(crate) fn put_in_full<C: Cut<T>>(&mut self, cut: &C, item: T, next: &mut Self)
-        requires full { length self.old ≡ 64 }
+        requires full { length self.old ≡ block_size }
         requires empty { next.old ≡ [] }
         ensures items { self.new ++ next.new ≡ put_before (C.is_behind cut.now) item self.old }
-        ensures count { length self.new + length next.new ≡ 65 }
+        ensures count { length self.new + length next.new ≡ block_size + 1 }
         ensures filled { 0 < length self.new }
         ensures next { 0 < length next.new }
-        ensures few { length self.new ≤ 48 }
-        ensures few_next { length next.new ≤ 48 }
+        ensures few { length self.new ≤ part_size }
+        ensures few_next { length next.new ≤ part_size }
     {
         let place = self.place_of(cut);
         self.insert_in_full(place, item, next);
@@ -186,7 +188,7 @@ impl<T: Copy, S: Summary<T> + Copy> Block<T, S> {
     /// Puts an item before the one that stands at a place.
     fn insert(&mut self, place: usize, item: T)
         requires place { place ≤ length self.old }
-        requires room { length self.old < 64 }
+        requires room { length self.old < block_size }
         ensures { self.new ≡ insert self.old place item }
     {
         self.items.insert(place, item).unwrap();
@@ -196,13 +198,13 @@ impl<T: Copy, S: Summary<T> + Copy> Block<T, S> {
     /// The same where there is no room: some of the items go into an empty block.
     fn insert_in_full(&mut self, place: usize, item: T, next: &mut Self)
         requires place { place ≤ length self.old }
-        requires full { length self.old ≡ 64 }
+        requires full { length self.old ≡ block_size }
         requires empty { next.old ≡ [] }
         ensures items { self.new ++ next.new ≡ insert self.old place item }
         ensures filled { 0 < length self.new }
         ensures next { 0 < length next.new }
-        ensures few { length self.new ≤ 48 }
-        ensures few_next { length next.new ≤ 48 }
+        ensures few { length self.new ≤ part_size }
+        ensures few_next { length next.new ≤ part_size }
     {
         let middle = middle_for(place);
         self.move_from(middle, next);
@@ -289,10 +291,10 @@ impl<T: Copy, S: Summary<T> + Copy> Block<T, S> {
 /// Where a full block is split that gets an item at a place: in halves, but where the place is near an end, beside it, so that
 /// items that come in order leave fuller blocks behind.
 fn middle_for(place: usize) -> usize
-    ensures front { 16 ≤ result }
-    ensures back { result ≤ 48 }
-    ensures in_front { place ≤ result → result < 48 }
-    ensures behind { result < place → 16 < result }
+    ensures front { block_size - part_size ≤ result }
+    ensures back { result ≤ part_size }
+    ensures in_front { place ≤ result → result < part_size }
+    ensures behind { result < place → block_size - part_size < result }
 {
     if place > PART {
         PART

@@ -2,6 +2,7 @@
 ghost use Rattle.std.specs.Prelude.{◌≡◌, ◌+◌, ◌<◌, ◌≤◌, [], length, true, false, IfNone, IfOk, IfSome, IsOk, OnOk, OnErr};
 ghost use Rattle.std.specs.List.{find};
 ghost use Rattle.summary_tree.specs.Cuts.{put_before, with_first, without_first};
+ghost use Rattle.summary_tree.specs.Sizes.{block_size};
 
 use crate::many::Many;
 use crate::{BLOCK, Cut, Summary, slices};
@@ -20,12 +21,13 @@ pub(crate) struct Few<T: Copy> {
 impl<T: Copy> Model for Few<T> {
     ghost use Rattle.std.specs.Prelude.{◌+◌, ◌≤◌, vec_len, vec_capacity};
     ghost use Rattle.summary_tree.specs.Contents.{Contents};
+    ghost use Rattle.summary_tree.specs.Sizes.{block_size};
 
     ghost Value = { Contents T };
 
     ghost view = { λ a. record { items = a.items.items; room = a.room } };
 
-    ghost invariant = { λ a. (vec_len a.items + a.room ≤ vec_capacity a.items) × (vec_len a.items + a.room ≤ 64) };
+    ghost invariant = { λ a. (vec_len a.items + a.room ≤ vec_capacity a.items) × (vec_len a.items + a.room ≤ block_size) };
 }
 
 impl<T: Copy> Few<T> {
@@ -43,7 +45,7 @@ impl<T: Copy> Few<T> {
     /// The items.
     pub(crate) fn items(&self) -> &[T]
         ensures items { result.now ≡ self.now.items }
-        ensures few { length result.now ≤ 64 }
+        ensures few { length result.now ≤ block_size }
     {
         &self.items
     }
@@ -57,7 +59,7 @@ impl<T: Copy> Few<T> {
 
     /// Whether they are still few with so many more.
     fn fits(&self, count: u64) -> bool
-        ensures yes { result ≡ true → length self.now.items + count ≤ 64 }
+        ensures yes { result ≡ true → length self.now.items + count ≤ block_size }
         ensures no { result ≡ false → self.now.room < count }
     {
         count <= (BLOCK - self.items.len()) as u64
@@ -92,7 +94,7 @@ impl<T: Copy> Few<T> {
     ///
     /// `Memory`, which never comes where that room is there, leaves the items as they were.
     fn reserve(&mut self, count: u64) -> Result<(), Memory>
-        requires { length self.old.items + count ≤ 64 }
+        requires { length self.old.items + count ≤ block_size }
         ensures items { self.new.items ≡ self.old.items }
         ensures kept { self.old.room ≤ self.new.room }
         ensures ok { OnOk result (count ≤ self.new.room) }

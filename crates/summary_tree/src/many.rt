@@ -1,7 +1,8 @@
 //! Many items, in nodes.
-ghost use Rattle.std.specs.Prelude.{◌≡◌, ◌+◌, ◌*◌, ◌<◌, ◌≤◌, ◌⊎◌, ◌^◌, [], ◌++◌, List, None, length, IfOk, IsOk, OnOk, OnErr};
+ghost use Rattle.std.specs.Prelude.{◌≡◌, ◌+◌, ◌-◌, ◌*◌, ◌<◌, ◌≤◌, ◌⊎◌, ◌^◌, [], ◌++◌, List, None, length, IfOk, IsOk, OnOk, OnErr};
 ghost use Rattle.std.specs.List.{find, last_or};
 ghost use Rattle.summary_tree.specs.Cuts.{before, both, IsCutBy, put_before, with_first, without_first};
+ghost use Rattle.summary_tree.specs.Sizes.{block_size, part_size, puts_until_split};
 
 use crate::places::Places;
 use crate::subtree::{Node, Subtree, of_items, of_one};
@@ -50,7 +51,7 @@ impl<T: Copy, S: Summary<T> + Copy> Many<T, S> {
 
     /// These items, and no room.
     pub(crate) fn of(alloc: Global, items: &[T]) -> Result<Self, Memory>
-        requires { length items.now ≤ 64 }
+        requires { length items.now ≤ block_size }
         ensures items { IfOk result (λ many. many.items ≡ items.now) }
         ensures room { IfOk result (λ many. many.room ≡ 0) }
     {
@@ -223,7 +224,7 @@ impl<T: Copy, S: Summary<T> + Copy> Many<T, S> {
 /// How many places hold room for so many items more, beside blocks of this excess: one for each at most.
 fn places_for(excess: u64, count: u64) -> u64
     requires { excess + count < 2 ^ 64 }
-    ensures held { (count ≤ result) ⊎ (excess + 16 + count ≤ 17 * result) }
+    ensures held { (count ≤ result) ⊎ (excess + (block_size - part_size) + count ≤ puts_until_split * result) }
     ensures few { result ≤ count }
 {
     count.min((excess + count) / PUTS + 2)

@@ -5,6 +5,7 @@ ghost use Rattle.summary_tree.specs.Balance.{IsBalanced, IsNearlyBalanced, IsOne
 ghost use Rattle.summary_tree.specs.Cuts.{IsCutBy, put_before, with_first, without_first};
 ghost use Rattle.summary_tree.specs.Nodes.{excess_of, items_of, nodes_of, IsKeptNode, KeepsItem, LacksItem, SwapsItem};
 ghost use Rattle.summary_tree.specs.Sides.{IsSideOf};
+ghost use Rattle.summary_tree.specs.Sizes.{block_size, part_size, puts_until_split};
 
 use super::balancing::{rebalanced, whole};
 use super::{Link, Node, Size, Subtree};
@@ -23,7 +24,7 @@ impl<T: Copy, S: Summary<T> + Copy> Subtree<T, S> {
     /// Puts an item in before the first that stands at a place or behind it; a new node, if it wants one, is taken from the
     /// places. It takes no memory.
     ///
-    /// A block that is split gives up its excess of 16, so a place goes for that and one put, or for 17 puts.
+    /// A block that is split gives up its excess, so a place goes for that and one put, or for [`PUTS`](crate::PUTS) puts.
     pub(crate) fn put<C: Cut<T>>(&mut self, cut: &C, item: T, places: &mut Places<T, S>)
         requires cut { IsCutBy (C.is_behind cut.now) self.old.items }
         requires place { 0 < places.old }
@@ -33,7 +34,7 @@ impl<T: Copy, S: Summary<T> + Copy> Subtree<T, S> {
         ensures nodes { IsOneMoreAtMost self.new.nodes self.old.nodes }
         ensures places { IsOneMoreAtMost places.old places.new }
         ensures first { self.old.items ≡ [] → self.new.excess ≡ 0 }
-        ensures paid { 0 < length self.old.items → self.new.excess + 17 * places.old ≤ self.old.excess + 17 * places.new + 1 }
+        ensures paid { 0 < length self.old.items → self.new.excess + puts_until_split * places.old ≤ self.old.excess + puts_until_split * places.new + 1 }
     {
         match mem::replace(&mut self.link, Link::Empty) {
             Link::Empty => *self = of_one(item, places.take()),
@@ -124,7 +125,7 @@ impl<T: Copy, S: Summary<T> + Copy> Subtree<T, S> {
         requires fits { length node.value.block + length self.old.items < 2 ^ 64 }
         ensures items { self.new.items ≡ node.value.block ++ self.old.items }
         ensures nodes { self.new.nodes ≡ self.old.nodes + 1 }
-        ensures excess { self.new.excess ≡ (length node.value.block - 48) + self.old.excess }
+        ensures excess { self.new.excess ≡ (length node.value.block - part_size) + self.old.excess }
     {
         match mem::replace(&mut self.link, Link::Empty) {
             Link::Empty => *self = alone(node),
@@ -140,7 +141,7 @@ impl<T: Copy, S: Summary<T> + Copy> Subtree<T, S> {
         requires { 0 < self.old.nodes }
         ensures items { self.old.items ≡ result.value.block ++ self.new.items }
         ensures nodes { self.old.nodes ≡ self.new.nodes + 1 }
-        ensures excess { self.old.excess ≡ (length result.value.block - 48) + self.new.excess }
+        ensures excess { self.old.excess ≡ (length result.value.block - part_size) + self.new.excess }
         ensures filled { 0 < length result.value.block }
     {
         let Link::Fork(mut node) = mem::replace(&mut self.link, Link::Empty) else {
@@ -162,7 +163,7 @@ fn alone<T: Copy, S: Summary<T> + Copy>(mut node: Box<Node<T, S>>) -> Subtree<T,
     requires fits { length node.value.block < 2 ^ 64 }
     ensures items { result.items ≡ node.value.block }
     ensures nodes { result.nodes ≡ 1 }
-    ensures excess { result.excess ≡ length node.value.block - 48 }
+    ensures excess { result.excess ≡ length node.value.block - part_size }
 {
     node.left = Subtree::new();
     node.right = Subtree::new();
@@ -190,7 +191,7 @@ pub(crate) fn of_items<T: Copy, S: Summary<T> + Copy>(
 ) -> Subtree<T, S>
     requires empty { node.value.block ≡ [] }
     requires some { 0 < length items.now }
-    requires few { length items.now ≤ 64 }
+    requires few { length items.now ≤ block_size }
     ensures { result.items ≡ items.now }
 {
     node.block.fill(items);
@@ -278,7 +279,7 @@ fn put_here<T: Copy, S: Summary<T> + Copy, C: Cut<T>>(
     ensures count { length result.items ≡ length node.value.left.items + length node.value.block + length node.value.right.items + 1 }
     ensures nodes { IsOneMoreAtMost result.nodes (nodes_of node.value) }
     ensures places { IsOneMoreAtMost places.old places.new }
-    ensures paid { result.excess + 17 * places.old ≤ excess_of node.value + 17 * places.new + 1 }
+    ensures paid { result.excess + puts_until_split * places.old ≤ excess_of node.value + puts_until_split * places.new + 1 }
 {
     if node.block.len() < BLOCK {
         let was = node.block.excess();
@@ -375,7 +376,7 @@ fn without_block<T: Copy, S: Summary<T> + Copy>(
     item: &T,
     was: u64,
 ) -> Subtree<T, S>
-    requires keeps { KeepsItem S.tells node.value item.now was (length node.value.block - 48) }
+    requires keeps { KeepsItem S.tells node.value item.now was (length node.value.block - part_size) }
     requires balance { IsBalanced node.value.left.nodes node.value.right.nodes }
     requires fits { length node.value.left.items + length node.value.block + length node.value.right.items < 2 ^ 64 }
     ensures items { result.items ≡ items_of node.value }

@@ -4,6 +4,7 @@ use Rattle.summary_tree.specs.declared.subtree.Node.{Node}
 use Rattle.summary_tree.specs.Contents.{Parts}
 use Rattle.summary_tree.specs.Cuts.{without_first}
 use Rattle.summary_tree.specs.Nodes.{IsKeptNode}
+use Rattle.summary_tree.specs.Sizes.{part_size}
 use Rattle.summary_tree.proofs.Growing.{with_side, Around, differ_before, differ_behind, around_taken, if_some, keeps_item}
 use Rattle.summary_tree.proofs.CutLemmas.{any_at_last, split_at}
 use Rattle.summary_tree.proofs.Forks.{at_fork}
@@ -163,7 +164,7 @@ without_block-requires-clause-keeps g t c =
     let it : m ≡ first = c.deref_mut-in-Fork-2.ensures.value ∙ ap (λ left. with_side first left) c.in_default.ensures.none in
     let kept = subst (IsKeptNode g.S.Summary.tells) (sym (it ∙ was)) f.kept in
     let taken = subst (λ ys. Around x m.block ys) (sym c.take-taken-in-Fork.ensures.rest) (around_taken p x m.block (sym c.take-taken-in-Fork.ensures.item)) in
-    let excess : c.excess-was.result ≡ length m.block - 48 =
-    c.excess-was.ensures ∙ (ap (λ (k : Node g.row.T.Denot g.row.S.Denot). length k.block - 48) c.deref-in-Fork-2.ensures ∙ ap (λ (k : Node g.row.T.Denot g.row.S.Denot). length k.block - 48) (sym it)) in
-    keeps_item x m new c.excess-was.result (length block - 48) kept (record { summary = refl; count = refl; nodes = refl; excess = refl })
+    let excess : c.excess-was.result ≡ length m.block - part_size =
+    c.excess-was.ensures ∙ (ap (λ (k : Node g.row.T.Denot g.row.S.Denot). length k.block - part_size) c.deref-in-Fork-2.ensures ∙ ap (λ (k : Node g.row.T.Denot g.row.S.Denot). length k.block - part_size) (sym it)) in
+    keeps_item x m new c.excess-was.result (length block - part_size) kept (record { summary = refl; count = refl; nodes = refl; excess = refl })
     (differ_behind m.left.items _ _ (differ_before m.block block m.right.items taken)) refl (omega (arith, excess)) (omega (arith, excess))
