@@ -127,8 +127,10 @@ static void wait_for(struct dehokuna_server *server, uint64_t ticket, uint64_t o
     DEMAND(dehokuna_wait(server, ticket, FILE_A, owner, first, first, mode, false) == DEHOKUNA_WAITS);
 }
 
-/* The numbers below n in an order that looks drawn: n is a power of ten, to which the factor is prime. */
+/* The numbers below n in an order that looks drawn: n is a power of ten, to which the factor is prime; as they rise, and as they fall. */
 static uint64_t shuffled(uint64_t k, uint64_t n) { return (k * 7919 + 13) % n; }
+static uint64_t rising(uint64_t k, uint64_t n) { return k % n; }
+static uint64_t falling(uint64_t k, uint64_t n) { return n - 1 - k; }
 
 static void own_each(struct dehokuna_server *server, uint64_t n, uint32_t mode) {
     for (uint64_t owner = 0; owner < n; owner++) set(server, owner, 4 * owner, 4 * owner + 1, mode);
@@ -148,11 +150,38 @@ static struct timing sets_drawn(uint64_t n) {
     return timing;
 }
 
+/* In each four bytes of one lock, the second is given another mode. */
+static struct timing set_each_second(struct dehokuna_server *server, uint64_t n, uint32_t mode) {
+    struct timing timing = begin();
+    while (goes_on(&timing, n)) set(server, 1, 4 * shuffled(timing.calls, n) + 1, 4 * shuffled(timing.calls, n) + 1, mode);
+    return timing;
+}
+
 static struct timing splits(uint64_t n) {
     struct dehokuna_server server = made();
     set(&server, 1, 0, 4 * n, DEHOKUNA_WRITE);
+    return set_each_second(&server, n, DEHOKUNA_UNLOCK);
+}
+
+static struct dehokuna_server with_splits(uint64_t n) {
+    struct dehokuna_server server = made();
+    set(&server, 1, 0, 4 * n, DEHOKUNA_WRITE);
+    set_each_second(&server, n, DEHOKUNA_UNLOCK);
+    return server;
+}
+
+static struct timing merges(uint64_t n) {
+    struct dehokuna_server server = with_splits(n);
+    return set_each_second(&server, n, DEHOKUNA_WRITE);
+}
+
+/* One call goes through all n runs. */
+static struct timing merge_of_all(uint64_t n) {
+    struct dehokuna_server server = with_splits(n);
     struct timing timing = begin();
-    while (goes_on(&timing, n)) set(&server, 1, 4 * shuffled(timing.calls, n) + 1, 4 * shuffled(timing.calls, n) + 1, DEHOKUNA_UNLOCK);
+    set(&server, 1, 0, 4 * n, DEHOKUNA_WRITE);
+    timing.took = now() - timing.began;
+    timing.calls = n;
     return timing;
 }
 
@@ -225,12 +254,12 @@ static struct timing flushes(uint64_t n) {
     return timing;
 }
 
-/* All wait to write one byte; who is granted unlocks. */
-static struct timing convoy(uint64_t n) {
+/* All wait to write one byte, by owner numbers in some order; who is granted unlocks. */
+static struct timing convoy(uint64_t n, uint64_t (*number)(uint64_t k, uint64_t n)) {
     struct dehokuna_server server = made();
     uint64_t ticket = HOLDER;
     set(&server, HOLDER, 0, 0, DEHOKUNA_WRITE);
-    for (uint64_t k = 0; k < n; k++) wait_for(&server, shuffled(k, n), shuffled(k, n), 0, DEHOKUNA_WRITE);
+    for (uint64_t k = 0; k < n; k++) wait_for(&server, number(k, n), number(k, n), 0, DEHOKUNA_WRITE);
     struct timing timing = begin();
     while (goes_on(&timing, n)) {
         set(&server, ticket, 0, 0, DEHOKUNA_UNLOCK);
@@ -238,6 +267,10 @@ static struct timing convoy(uint64_t n) {
     }
     return timing;
 }
+
+static struct timing convoy_rising(uint64_t n) { return convoy(n, rising); }
+static struct timing convoy_falling(uint64_t n) { return convoy(n, falling); }
+static struct timing convoy_drawn(uint64_t n) { return convoy(n, shuffled); }
 
 /* One unlock grants all, each of whom waits for a byte of its own, or all to read one. */
 static struct timing grants(uint64_t n, uint64_t apart, uint32_t mode) {
@@ -336,6 +369,8 @@ static const struct row {
     {"a set of one owner's n runs, rising", sets_rising},
     {"the same, in drawn order", sets_drawn},
     {"an unlock that splits, n times", splits},
+    {"a lock that merges two runs again", merges},
+    {"a lock that merges all n runs, a run", merge_of_all},
     {"a set of each of n owners", owners_set},
     {"a get that is blocked, among n owners", gets_blocked},
     {"a get that isn't", gets_free},
@@ -344,7 +379,9 @@ static const struct row {
     {"a set of each of n readers that overlap", readers_overlap},
     {"a write lock that n such readers refuse", writer_among_readers},
     {"a flush of each of n owners", flushes},
-    {"an unlock in a convoy of n writers of one byte", convoy},
+    {"an unlock in a convoy of n writers of one byte, owners rising", convoy_rising},
+    {"the same, owners falling", convoy_falling},
+    {"the same, owners in drawn order", convoy_drawn},
     {"an unlock that grants n writers, a grant", grants_of_writers},
     {"an unlock that grants n readers of one byte, a grant", grants_of_readers},
     {"a set beside n waits for other bytes", sets_beside_waits},
