@@ -19,10 +19,19 @@ nodes_of node = node.left.nodes + 1 + node.right.nodes
 abbrev pub excess_of : {T S : Type 0} → Node T S → ℕ
 excess_of node = node.left.excess + (length node.block - part_size) + node.right.excess
 
+-- what a node and its sides stand for
+abbrev pub parts_of : {T S : Type 0} → Node T S → Parts T
+parts_of node = record { items = items_of node; nodes = nodes_of node; excess = excess_of node }
+
 -- what stands behind a link
 abbrev pub parts_behind : {T S : Type 0} → Link T S → Parts T
 parts_behind Empty = record { items = []; nodes = 0; excess = 0 }
-parts_behind (Fork node) = record { items = items_of node.value; nodes = nodes_of node.value; excess = excess_of node.value }
+parts_behind (Fork node) = parts_of node.value
+
+-- the node's block isn't empty, and the items can be counted
+pub record IsFilled {T S : Type 0} (node : Node T S) : Type 0 where
+  pub some : 0 < length node.block
+  pub fits : length node.left.items + length node.block + length node.right.items < 2 ^ 64
 
 -- the node counts its items, its nodes, none of which is empty, and their excess, tells of the items, and is balanced
 pub record IsKeptNode {T S : Type 0} (tells : S → List T → Type 0) (node : Node T S) : Type 0 where

@@ -1,6 +1,6 @@
 //! Few items, side by side.
-ghost use Rattle.std.specs.Prelude.{◌≡◌, ◌+◌, ◌<◌, ◌≤◌, [], length, true, false, IfNone, IfOk, IfSome, IsOk, OnOk, OnErr};
-ghost use Rattle.std.specs.List.{find};
+ghost use Rattle.std.specs.Prelude.{◌≡◌, ◌+◌, ◌<◌, ◌≤◌, [], length, true, false, None, IfNone, IfOk, IfSome, IsOk, OnOk, OnErr};
+ghost use Rattle.std.specs.List.{find, position_or_len};
 ghost use Rattle.summary_tree.specs.Cuts.{put_before, with_first, without_first};
 ghost use Rattle.summary_tree.specs.Sizes.{block_size};
 
@@ -120,29 +120,39 @@ impl<T: Copy> Few<T> {
         self.room -= 1;
     }
 
+    /// Where the first item stands that stands at a place or behind it, if one does.
+    #[tactic(auto, using(crate::proofs::ListLemmas::none_at_end, crate::proofs::Splits::place_le))]
+    fn place_of<C: Cut<T>>(&self, cut: &C) -> Option<usize>
+        ensures some { IfSome result (λ place. (place ≡ position_or_len (C.is_behind cut.now) self.now.items) × (place < length self.now.items)) }
+        ensures none { IfNone result (find (C.is_behind cut.now) self.now.items ≡ None) }
+    {
+        let place = slices::place_of(&self.items, cut);
+        if place < self.items.len() {
+            Some(place)
+        } else {
+            None
+        }
+    }
+
     /// Takes out the first item that stands at a place or behind it; the room stays.
+    #[tactic(auto, using(crate::proofs::ListLemmas::all_stay, crate::proofs::ListLemmas::found_at, crate::proofs::Splits::without_at_place))]
     pub(crate) fn take<C: Cut<T>>(&mut self, cut: &C) -> Option<T>
         ensures item { result ≡ find (C.is_behind cut.now) self.old.items }
         ensures rest { self.new.items ≡ without_first (C.is_behind cut.now) self.old.items }
         ensures room { self.new.room ≡ self.old.room }
     {
-        let place = slices::place_of(&self.items, cut);
-        if place == self.items.len() {
-            return None;
-        }
+        let place = self.place_of(cut)?;
         Some(self.items.remove(place))
     }
 
     /// Puts another item in place of the first that stands at a place or behind it, and hands that one out; the room stays.
+    #[tactic(auto, using(crate::proofs::ListLemmas::all_kept, crate::proofs::ListLemmas::found_at, crate::proofs::Splits::with_at_place))]
     pub(crate) fn replace<C: Cut<T>>(&mut self, cut: &C, item: T) -> Option<T>
         ensures item { result ≡ find (C.is_behind cut.now) self.old.items }
         ensures items { self.new.items ≡ with_first (C.is_behind cut.now) item self.old.items }
         ensures room { self.new.room ≡ self.old.room }
     {
-        let place = slices::place_of(&self.items, cut);
-        if place == self.items.len() {
-            return None;
-        }
+        let place = self.place_of(cut)?;
         let replaced = self.items[place];
         self.items[place] = item;
         Some(replaced)

@@ -1,7 +1,7 @@
 //! Nodes whose sides have changed, made whole again.
-ghost use Rattle.std.specs.Prelude.{◌≡◌, ◌+◌, ◌*◌, ◌<◌, ◌≤◌, ◌^◌, length};
+ghost use Rattle.std.specs.Prelude.{◌≡◌, ◌+◌, ◌*◌, ◌≤◌};
 ghost use Rattle.summary_tree.specs.Balance.{IsBalanced, IsNearlyBalanced};
-ghost use Rattle.summary_tree.specs.Nodes.{excess_of, items_of, nodes_of};
+ghost use Rattle.summary_tree.specs.Nodes.{items_of, parts_of, IsFilled};
 
 use super::{Link, Node, Subtree};
 use crate::Summary;
@@ -21,11 +21,8 @@ fn summary_of<T: Copy, S: Summary<T> + Copy>(node: &Node<T, S>) -> S
 /// The tree of a node whose sides are balanced, with its counts and its summary made anew.
 pub(super) fn whole<T: Copy, S: Summary<T> + Copy>(mut node: Box<Node<T, S>>) -> Subtree<T, S>
     requires balance { IsBalanced node.value.left.nodes node.value.right.nodes }
-    requires filled { 0 < length node.value.block }
-    requires fits { length node.value.left.items + length node.value.block + length node.value.right.items < 2 ^ 64 }
-    ensures items { result.items ≡ items_of node.value }
-    ensures nodes { result.nodes ≡ nodes_of node.value }
-    ensures excess { result.excess ≡ excess_of node.value }
+    requires filled { IsFilled node.value }
+    ensures { result ≡ parts_of node.value }
 {
     node.count = node.left.len() + node.block.len() as u64 + node.right.len();
     node.nodes = node.left.nodes() + 1 + node.right.nodes();
@@ -39,11 +36,8 @@ pub(super) fn whole<T: Copy, S: Summary<T> + Copy>(mut node: Box<Node<T, S>>) ->
 /// The tree of a node of which one side has had one node more or less.
 pub(super) fn rebalanced<T: Copy, S: Summary<T> + Copy>(node: Box<Node<T, S>>) -> Subtree<T, S>
     requires balance { IsNearlyBalanced node.value.left.nodes node.value.right.nodes }
-    requires filled { 0 < length node.value.block }
-    requires fits { length node.value.left.items + length node.value.block + length node.value.right.items < 2 ^ 64 }
-    ensures items { result.items ≡ items_of node.value }
-    ensures nodes { result.nodes ≡ nodes_of node.value }
-    ensures excess { result.excess ≡ excess_of node.value }
+    requires filled { IsFilled node.value }
+    ensures { result ≡ parts_of node.value }
 {
     let left = node.left.nodes();
     let right = node.right.nodes();
@@ -60,11 +54,8 @@ pub(super) fn rebalanced<T: Copy, S: Summary<T> + Copy>(node: Box<Node<T, S>>) -
 fn turned_right<T: Copy, S: Summary<T> + Copy>(mut top: Box<Node<T, S>>) -> Subtree<T, S>
     requires heavy { 3 + 3 * top.value.right.nodes ≤ top.value.left.nodes }
     requires balance { IsNearlyBalanced top.value.left.nodes top.value.right.nodes }
-    requires filled { 0 < length top.value.block }
-    requires fits { length top.value.left.items + length top.value.block + length top.value.right.items < 2 ^ 64 }
-    ensures items { result.items ≡ items_of top.value }
-    ensures nodes { result.nodes ≡ nodes_of top.value }
-    ensures excess { result.excess ≡ excess_of top.value }
+    requires filled { IsFilled top.value }
+    ensures { result ≡ parts_of top.value }
 {
     let Link::Fork(mut low) = mem::replace(&mut top.left, Subtree::new()).link else {
         unreachable!()
@@ -88,11 +79,8 @@ fn turned_right<T: Copy, S: Summary<T> + Copy>(mut top: Box<Node<T, S>>) -> Subt
 fn turned_left<T: Copy, S: Summary<T> + Copy>(mut top: Box<Node<T, S>>) -> Subtree<T, S>
     requires heavy { 3 + 3 * top.value.left.nodes ≤ top.value.right.nodes }
     requires balance { IsNearlyBalanced top.value.left.nodes top.value.right.nodes }
-    requires filled { 0 < length top.value.block }
-    requires fits { length top.value.left.items + length top.value.block + length top.value.right.items < 2 ^ 64 }
-    ensures items { result.items ≡ items_of top.value }
-    ensures nodes { result.nodes ≡ nodes_of top.value }
-    ensures excess { result.excess ≡ excess_of top.value }
+    requires filled { IsFilled top.value }
+    ensures { result ≡ parts_of top.value }
 {
     let Link::Fork(mut low) = mem::replace(&mut top.right, Subtree::new()).link else {
         unreachable!()

@@ -3,7 +3,7 @@ ghost use Rattle.std.specs.Prelude.{◌≡◌, ◌+◌, ◌-◌, ◌*◌, ◌<�
 ghost use Rattle.std.specs.List.{find};
 ghost use Rattle.summary_tree.specs.Balance.{IsBalanced, IsNearlyBalanced, IsOneMoreAtMost};
 ghost use Rattle.summary_tree.specs.Cuts.{IsCutBy, put_before, with_first, without_first};
-ghost use Rattle.summary_tree.specs.Nodes.{excess_of, items_of, nodes_of, IsKeptNode, KeepsItem, LacksItem, SwapsItem};
+ghost use Rattle.summary_tree.specs.Nodes.{excess_of, items_of, nodes_of, parts_of, IsFilled, IsKeptNode, KeepsItem, LacksItem, SwapsItem};
 ghost use Rattle.summary_tree.specs.Sides.{IsSideOf};
 ghost use Rattle.summary_tree.specs.Sizes.{block_size, part_size, puts_until_split};
 
@@ -229,11 +229,8 @@ fn grown<T: Copy, S: Summary<T> + Copy>(
     requires lacks { was.nodes ≡ is.nodes → LacksItem S.tells node.value item.now was.excess is.excess }
     requires even { was.nodes ≡ is.nodes → IsBalanced node.value.left.nodes node.value.right.nodes }
     requires balance { IsNearlyBalanced node.value.left.nodes node.value.right.nodes }
-    requires filled { 0 < length node.value.block }
-    requires fits { length node.value.left.items + length node.value.block + length node.value.right.items < 2 ^ 64 }
-    ensures items { result.items ≡ items_of node.value }
-    ensures nodes { result.nodes ≡ nodes_of node.value }
-    ensures excess { result.excess ≡ excess_of node.value }
+    requires filled { IsFilled node.value }
+    ensures { result ≡ parts_of node.value }
 {
     if was.nodes == is.nodes {
         with_item(node, item, was.excess, is.excess)
@@ -253,9 +250,7 @@ fn with_item<T: Copy, S: Summary<T> + Copy>(
     requires lacks { LacksItem S.tells node.value item.now was is }
     requires balance { IsBalanced node.value.left.nodes node.value.right.nodes }
     requires filled { 0 < length node.value.block }
-    ensures items { result.items ≡ items_of node.value }
-    ensures nodes { result.nodes ≡ nodes_of node.value }
-    ensures excess { result.excess ≡ excess_of node.value }
+    ensures { result ≡ parts_of node.value }
 {
     node.count += 1;
     node.excess = node.excess - was + is;
@@ -301,11 +296,8 @@ fn renewed<T: Copy, S: Summary<T> + Copy>(
 ) -> Subtree<T, S>
     requires swaps { IfSome replaced (λ other. SwapsItem S.tells node.value other item.now) }
     requires balance { IsBalanced node.value.left.nodes node.value.right.nodes }
-    requires filled { 0 < length node.value.block }
-    requires fits { length node.value.left.items + length node.value.block + length node.value.right.items < 2 ^ 64 }
-    ensures items { result.items ≡ items_of node.value }
-    ensures nodes { result.nodes ≡ nodes_of node.value }
-    ensures excess { result.excess ≡ excess_of node.value }
+    requires filled { IsFilled node.value }
+    ensures { result ≡ parts_of node.value }
 {
     let Some(other) = replaced else {
         return whole(node);
@@ -329,11 +321,8 @@ fn shrunk<T: Copy, S: Summary<T> + Copy>(
     requires keeps { was.nodes ≡ is.nodes → IfSome taken (λ item. KeepsItem S.tells node.value item was.excess is.excess) }
     requires even { was.nodes ≡ is.nodes → IsBalanced node.value.left.nodes node.value.right.nodes }
     requires balance { IsNearlyBalanced node.value.left.nodes node.value.right.nodes }
-    requires filled { 0 < length node.value.block }
-    requires fits { length node.value.left.items + length node.value.block + length node.value.right.items < 2 ^ 64 }
-    ensures items { result.items ≡ items_of node.value }
-    ensures nodes { result.nodes ≡ nodes_of node.value }
-    ensures excess { result.excess ≡ excess_of node.value }
+    requires filled { IsFilled node.value }
+    ensures { result ≡ parts_of node.value }
 {
     if let Some(item) = taken {
         if was.nodes == is.nodes {
@@ -354,9 +343,7 @@ fn without_item<T: Copy, S: Summary<T> + Copy>(
     requires keeps { KeepsItem S.tells node.value item.now was is }
     requires balance { IsBalanced node.value.left.nodes node.value.right.nodes }
     requires filled { 0 < length node.value.block }
-    ensures items { result.items ≡ items_of node.value }
-    ensures nodes { result.nodes ≡ nodes_of node.value }
-    ensures excess { result.excess ≡ excess_of node.value }
+    ensures { result ≡ parts_of node.value }
 {
     node.left.is_small();
     node.right.is_small();

@@ -70,7 +70,7 @@ returns-in-Left-clause-count g t c =
     let it : m ≡ c.deref.result.now = c.deref_mut.ensures.value ∙ sym c.deref.ensures in
     let is : c.match-self-grown.self ≡ c.grown.result = elim c.match-self-grown.branch [ in-Fork-2 w ↦ w.self-is ∙ c.grown-in-Left.view_is | in-Empty-2 w ↦ w.self-is ∙ c.grown-in-Left.view_is ] in
     let all : length c.args.self.now.items ≡ length (items_of m) = ap length (f.items ∙ ap items_of (sym it)) in
-    let new : length c.match-self-grown.self.items ≡ length (part.items ++ (m.block ++ m.right.items)) = ap length (ap items_in is ∙ c.grown.ensures.items) in
+    let new : length c.match-self-grown.self.items ≡ length (part.items ++ (m.block ++ m.right.items)) = ap length (ap items_in is ∙ ap items_in c.grown.ensures) in
     omega (arith, all, new, three_long m.left.items m.block m.right.items, three_long part.items m.block m.right.items, c.put.ensures.count)
 
 pub returns-in-Right-clause-count : goal.returns-in-Right-clause-count
@@ -81,5 +81,5 @@ returns-in-Right-clause-count g t c =
     let it : m ≡ c.deref.result.now = c.deref_mut-in-Right.ensures.value ∙ sym c.deref.ensures in
     let is : c.match-self-grown-2.self ≡ c.grown-in-Right.result = elim c.match-self-grown-2.branch [ in-Fork-4 w ↦ w.self-is ∙ c.grown-in-Right-2.view_is | in-Empty-4 w ↦ w.self-is ∙ c.grown-in-Right-2.view_is ] in
     let all : length c.args.self.now.items ≡ length (items_of m) = ap length (f.items ∙ ap items_of (sym it)) in
-    let new : length c.match-self-grown-2.self.items ≡ length (m.left.items ++ (m.block ++ part.items)) = ap length (ap items_in is ∙ c.grown-in-Right.ensures.items) in
+    let new : length c.match-self-grown-2.self.items ≡ length (m.left.items ++ (m.block ++ part.items)) = ap length (ap items_in is ∙ ap items_in c.grown-in-Right.ensures) in
     omega (arith, all, new, three_long m.left.items m.block m.right.items, three_long m.left.items m.block part.items, c.put-in-Right.ensures.count)

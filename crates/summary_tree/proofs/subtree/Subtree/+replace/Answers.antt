@@ -64,6 +64,7 @@ returns-then-not-ends_behind-clause-items g t c =
     let s = split_at p c.args.self.now.items n.left.items n.block n.right.items f.items f.kept.filled c.requires in
     let none = s.fails (sym c.ends_behind.ensures ∙ c.if-not-ends_behind.true) in
     let e = with_last p c.args.item c.args.self.now.items n.left.items n.block n.right.items f.items none.0 none.1 in
+    let now = ap items_in c.renewed.ensures in
     (cc)
 
 pub returns-in-Some-clause-item : goal.returns-in-Some-clause-item
@@ -84,6 +85,7 @@ returns-in-Some-clause-items g t c =
     let s = split_at p c.args.self.now.items n.left.items n.block n.right.items f.items f.kept.filled c.requires in
     let found : find p n.left.items ≡ Some c.in-Some.replaced = cc in
     let e = with_left p c.args.item c.args.self.now.items n.left.items n.block n.right.items f.items (any_found p n.left.items c.in-Some.replaced found) in
+    let now = ap items_in c.renewed-in-Some.ensures in
     (cc)
 
 pub returns-in_default-clause-item : goal.returns-in_default-clause-item
@@ -111,7 +113,7 @@ returns-in_default-clause-items g t c =
     let left : c.deref_mut-in-Fork-2.result.now.left.items ≡ n.left.items = ap left_of c.deref_mut-in-Fork-2.ensures.value ∙ (ap items_in c.in_default.ensures.none ∙ ap left_of was) in
     let here : c.replace-replaced-in-Fork.new.self ≡ with_first p c.args.item n.block = c.replace-replaced-in-Fork.ensures.items ∙ ap (with_first p c.args.item) block in
     let right : c.deref_mut-in-Fork-2.result.now.right.items ≡ n.right.items = ap right_of c.deref_mut-in-Fork-2.ensures.value ∙ ap right_of was in
-    let now = c.renewed-in-Fork.ensures.items ∙ (three left here right ∙ sym e) in
+    let now = ap items_in c.renewed-in-Fork.ensures ∙ (three left here right ∙ sym e) in
     (cc)
 
 pub renewed-requires-clause-swaps : goal.renewed-requires-clause-swaps

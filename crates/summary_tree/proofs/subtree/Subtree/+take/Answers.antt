@@ -65,6 +65,7 @@ returns-then-not-ends_behind-clause-rest g t c =
     let s = split_at p c.args.self.now.items n.left.items n.block n.right.items f.items f.kept.filled c.requires in
     let none = s.fails (sym c.ends_behind.ensures ∙ c.if-not-ends_behind.true) in
     let e = without_last p c.args.self.now.items n.left.items n.block n.right.items f.items none.0 none.1 in
+    let now = ap items_in c.shrunk.ensures in
     (cc)
 
 pub returns-in-Some-clause-item : goal.returns-in-Some-clause-item
@@ -85,6 +86,7 @@ returns-in-Some-clause-rest g t c =
     let s = split_at p c.args.self.now.items n.left.items n.block n.right.items f.items f.kept.filled c.requires in
     let found : find p n.left.items ≡ Some c.in-Some.taken = cc in
     let e = without_left p c.args.self.now.items n.left.items n.block n.right.items f.items (any_found p n.left.items c.in-Some.taken found) in
+    let now = ap items_in c.shrunk-in-Some.ensures in
     (cc)
 
 pub returns-in_default-clause-item : goal.returns-in_default-clause-item

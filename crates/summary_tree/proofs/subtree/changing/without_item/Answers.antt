@@ -13,12 +13,14 @@ counted_down node = record { left = node.left; right = node.right; summary = nod
 abbrev with_excess : {T S : Type 0} → Node T S → ℕ → Node T S
 with_excess node excess = record { left = node.left; right = node.right; summary = node.summary; count = node.count; nodes = node.nodes; excess = excess; block = node.block }
 
-pub whole-requires-clause-fits : goal.whole-requires-clause-fits
-whole-requires-clause-fits g c =
+pub whole-requires-clause-filled : goal.whole-requires-clause-filled
+whole-requires-clause-filled g c =
     let n = c.args.node.value in
     let k = c.requires.keeps in
-    subst (λ (m : Node g.row.T.Denot g.row.S.Denot). length m.left.items + length m.block + length m.right.items < 2 ^ 64) (sym c.deref_mut.ensures.value)
-    (omega (arith, fewer c.args.item.now n c.args.was c.args.is k, three_long n.left.items n.block n.right.items, k.fits))
+    let some = subst (λ (m : Node g.row.T.Denot g.row.S.Denot). 0 < length m.block) (sym c.deref_mut.ensures.value) c.requires.filled in
+    let fits = subst (λ (m : Node g.row.T.Denot g.row.S.Denot). length m.left.items + length m.block + length m.right.items < 2 ^ 64) (sym c.deref_mut.ensures.value)
+    (omega (arith, fewer c.args.item.now n c.args.was c.args.is k, three_long n.left.items n.block n.right.items, k.fits)) in
+    record { some = some; fits = fits }
 
 pub overflow_add-deref : goal.overflow_add-deref
 overflow_add-deref g c =
