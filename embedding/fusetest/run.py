@@ -31,10 +31,12 @@ STEPS: dict[str, tuple[Callable[[Path], None], float]] = {
     "flocks": (descriptions.flocks, 60),
     "grants": (waits.grants, 120),
     "signals": (waits.signals, 180),
+    "closed-meanwhile": (waits.closed_meanwhile, 120),
     "deadlocks": (waits.deadlocks, 120),
     "cycles-of-open-files": (waits.cycles_of_open_files, 120),
     "made-by-mknod": (special.made_by_mknod, 60),
     "another-user": (special.another_user, 60),
+    "appends": (special.appends, 60),
     "refusals": (special.refusals, 120),
     "listing": (special.listing, 120),
     "package-tool": (programs.package_tool, 60),
@@ -46,7 +48,7 @@ STEPS: dict[str, tuple[Callable[[Path], None], float]] = {
     "random-scripts": (corpus.random_scripts, 900),
 }
 # What a tmpfs has nothing of.
-ON_THE_MOUNT_ALONE = ("refusals", "listing")
+ON_THE_MOUNT_ALONE = ("appends", "refusals", "listing")
 # What lockreplay judges.
 LOCKREPLAYS = ("corpus", "random-scripts")
 # What only root can try: another user is to be let in.

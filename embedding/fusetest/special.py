@@ -121,6 +121,18 @@ def refusals(path: Path) -> None:
     see("the log", "; ".join(lines), "; ".join(f"{line} {below}" for line in due))
 
 
+def appends(path: Path) -> None:
+    """What is appended goes behind what another has written to the folder itself."""
+    below = path.parent.parent / "beneath" / path.name
+    held = opened(path, os.O_WRONLY | os.O_CREAT | os.O_APPEND)
+    os.write(held, b"one ")
+    with below.open("ab") as other:
+        other.write(b"two ")
+    os.write(held, b"three")
+    see("all three are there", below.read_text(), "one two three")
+    os.close(held)
+
+
 def listing(path: Path) -> None:
     """lockfs --list tells who holds what and who waits for whom, as the file does that it reads."""
 

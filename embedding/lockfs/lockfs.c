@@ -35,6 +35,7 @@
 #include <sys/fsuid.h>
 #include <sys/resource.h>
 #include <sys/stat.h>
+#include <sys/uio.h>
 #include <time.h>
 #include <unistd.h>
 
@@ -531,7 +532,7 @@ void print_file_name(FILE *out, ino_t inode) {
 /* Fills the entry in, and counts it as a look-up; otherwise the error. */
 static int look_up(fuse_ino_t parent, const char *name, struct fuse_entry_param *entry) {
     memset(entry, 0, sizeof *entry);
-    int descriptor = openat(node_of(parent)->descriptor, name, O_PATH | O_NOFOLLOW);
+    int descriptor = openat(node_of(parent)->descriptor, name, O_PATH | O_NOFOLLOW | O_CLOEXEC);
     if (descriptor < 0) return errno;
     if (fstatat(descriptor, "", &entry->attr, AT_EMPTY_PATH) < 0) {
         int error = errno;
@@ -618,7 +619,7 @@ static void begin_open(int descriptor, fuse_ino_t file, struct fuse_file_info *i
     else info->keep_cache = 1;
 }
 
-/* The kernel has followed links, and says itself where what is appended goes. */
+/* The kernel has followed links; what is appended is each write's to say, since F_SETFL changes that. */
 static int open_flags(const struct fuse_file_info *info) { return (info->flags & ~(O_NOFOLLOW | O_APPEND)) | O_CLOEXEC; }
 
 static void lockfs_open(fuse_req_t request, fuse_ino_t file, struct fuse_file_info *info) {
@@ -690,7 +691,9 @@ static void lockfs_read(fuse_req_t request, fuse_ino_t file, size_t size, off_t 
 
 static void lockfs_write(fuse_req_t request, fuse_ino_t file, const char *bytes, size_t size, off_t to, struct fuse_file_info *info) {
     (void)file;
-    ssize_t written = pwrite((int)info->fh, bytes, size, to);
+    const struct iovec part = {(void *)bytes, size};
+    /* (where the file ends the kernel may not know: others write to the folder, too) */
+    ssize_t written = pwritev2((int)info->fh, &part, 1, to, info->flags & O_APPEND ? RWF_APPEND : 0);
     if (written < 0) fuse_reply_err(request, errno);
     else fuse_reply_write(request, (size_t)written);
 }
@@ -779,14 +782,18 @@ static void lockfs_readdir(fuse_req_t request, fuse_ino_t file, size_t size, off
         return;
     }
     size_t used = 0;
+    struct dirent *found;
     seekdir(folder_of(info), from);
-    for (struct dirent *found; (found = readdir(folder_of(info)));) {
+    while (errno = 0, found = readdir(folder_of(info))) {
         struct stat described = {.st_ino = found->d_ino, .st_mode = (mode_t)found->d_type << 12};
         size_t more = fuse_add_direntry(request, buffer + used, size - used, found->d_name, &described, found->d_off);
         if (more > size - used) break;
         used += more;
     }
-    fuse_reply_buf(request, buffer, used);
+    /* (what was read before an error is told first) */
+    int error = !found && used == 0 ? errno : 0;
+    if (error) fuse_reply_err(request, error);
+    else fuse_reply_buf(request, buffer, used);
     free(buffer);
 }
 
