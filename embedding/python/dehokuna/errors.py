@@ -14,6 +14,10 @@ class LockError(OSError):
     def __init__(self, why: str = "") -> None:
         super().__init__(self.number, why or os.strerror(self.number))
 
+    def __reduce__(self) -> tuple[object, ...]:
+        # OSError's own hands over the errno as well, which a worker's answer could not be made again of.
+        return type(self), (self.strerror,)
+
 
 class Blocked(LockError, BlockingIOError):
     """EAGAIN: a lock of another owner is in the way. A flock that converts has lost the lock that it had (flock(2))."""
@@ -49,6 +53,9 @@ class NoState(LockError, ValueError):
         self.flaw = flaw
         self.offset = offset
 
+    def __reduce__(self) -> tuple[object, ...]:
+        return type(self), (self.flaw, self.offset)
+
 
 class TicketTaken(LockError):
     """EEXIST (this project's choice): a wait has this ticket already, or a grant that wasn't fetched. It is the server's mistake."""
@@ -57,3 +64,6 @@ class TicketTaken(LockError):
 
     def __init__(self) -> None:
         super().__init__("a wait has this ticket already, or a grant that was not fetched")
+
+    def __reduce__(self) -> tuple[object, ...]:
+        return type(self), ()

@@ -2,12 +2,14 @@
 
 import doctest
 import errno
+import pickle
 import struct
 import threading
 import unittest
 
 import dehokuna
-from dehokuna import TO_THE_END, Blocked, Blocker, Counts, Deadlock, FlockLock, Invalid, LockServer, Mode, NoState, OwnerWait, Policy, TicketTaken, Waiting
+from dehokuna import TO_THE_END, Blocked, Blocker, Counts, Deadlock, FlockLock, Invalid, LockServer, Mode, NoLocks, NoState, OwnerWait, Policy
+from dehokuna import TicketTaken, Waiting
 
 FILE, OTHER = 7, 2**64 - 1
 ANN, BOB, CAT = 1, 2**63 + 2, 3
@@ -262,6 +264,15 @@ class Words(ServerTest):
     def test_another_policy_is_refused(self):
         with self.assertRaises(ValueError):
             LockServer(9)
+
+    def test_a_worker_may_answer_by_a_refusal(self):
+        numbers = {Blocked: errno.EAGAIN, Deadlock: errno.EDEADLK, NoLocks: errno.ENOLCK, Invalid: errno.EINVAL, TicketTaken: errno.EEXIST}
+        for kind, number in numbers.items():
+            given = kind()
+            answer = pickle.loads(pickle.dumps(given))
+            self.assertEqual((type(answer), answer.errno, str(answer)), (kind, number, str(given)))
+        answer = pickle.loads(pickle.dumps(NoState("a file comes again", 17)))
+        self.assertEqual((type(answer), answer.errno, answer.flaw, answer.offset), (NoState, errno.EINVAL, "a file comes again", 17))
 
     def test_a_closed_server_says_so(self):
         self.server.close()
