@@ -229,12 +229,16 @@ static void get_processes(struct reader *reader) {
     }
 }
 
+/* Where it can't be made, the old table stays, for those who still look at it. */
 static bool get_table(struct reader *reader) {
+    struct dehokuna_server made = {0};
     struct dehokuna_fault fault;
     size_t size = get_number(reader, 8);
     const uint8_t *table = get_part(reader, size);
+    if (!table || dehokuna_import(&made, table, size, &fault) != DEHOKUNA_DONE) return false;
     dehokuna_destroy(&server);
-    return table && dehokuna_import(&server, table, size, &fault) == DEHOKUNA_DONE;
+    server = made;
+    return true;
 }
 
 static void get_generations(struct reader *reader) {
