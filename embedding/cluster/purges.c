@@ -2,6 +2,7 @@
 #include "clock.h"
 #include "settings.h"
 #include <errno.h>
+#include <signal.h>
 #include <spawn.h>
 #include <stdio.h>
 #include <sys/wait.h>
@@ -60,11 +61,25 @@ int purges_timeout(void) {
     return least == UINT64_MAX ? -1 : least <= now ? 0 : (int)(least - now);
 }
 
+/* Runs the words by a shell, which may be ended by any signal, unlike this thread. Returns an error number. */
+static int run(char *words, pid_t *child) {
+    char *const line[] = {"sh", "-c", words, NULL};
+    posix_spawnattr_t attributes;
+    sigset_t none;
+    sigemptyset(&none);
+    int error = posix_spawnattr_init(&attributes);
+    if (error) return error;
+    posix_spawnattr_setsigmask(&attributes, &none);
+    posix_spawnattr_setflags(&attributes, POSIX_SPAWN_SETSIGMASK);
+    error = posix_spawn(child, "/bin/sh", NULL, &attributes, line, environ);
+    posix_spawnattr_destroy(&attributes);
+    return error;
+}
+
 static void start_fence(struct planned *plan) {
     char words[FENCE_WORDS];
     snprintf(words, sizeof words, "%s %u", command, plan->node);
-    char *const line[] = {"sh", "-c", words, NULL};
-    int error = posix_spawn(&plan->fence, "/bin/sh", NULL, NULL, line, environ);
+    int error = run(words, &plan->fence);
     say("fences node %u: %s%s", plan->node, words, error ? ": can't be run" : "");
     if (error) plan->fence = 0, plan->due = milliseconds_now() + FENCE_RETRY;
 }
