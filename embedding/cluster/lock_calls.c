@@ -154,11 +154,19 @@ static void cluster_flush(fuse_req_t request, fuse_ino_t file, struct fuse_file_
 
 static void (*plain_release)(fuse_req_t request, fuse_ino_t file, struct fuse_file_info *info);
 
+/* What the owner has on the file goes. The table's note may be gone: a flush drops it, and a wait that stayed may have been granted since. */
+static void flush_owner(const struct open_file *open, const struct owner *owner) {
+    const struct call call = {.op = OP_FLUSH, .file = open->inode, .generation = open->generation, .open_file = open->number, .owner = owner->number};
+    replica_submit(&call, NULL);
+}
+
 /* The last descriptor of an open file is closed. The kernel doesn't wait for the answer. */
 static void cluster_release(fuse_req_t request, fuse_ino_t file, struct fuse_file_info *info) {
     take_turn();
     struct open_file *open = is_listing(file) ? NULL : find_open_file(info->fh);
     if (open && open->askers && !open->is_lost && standing_now() != STANDING_WITHDRAWN) {
+        for (const struct asker *asker = open->askers; asker; asker = asker->next)
+            if (!asker->is_flock && !asker->is_lost) flush_owner(open, asker->owner);
         struct owner *owner = open->has_flock_owner ? use_owner(open->flock_owner) : NULL;
         struct call call = {.op = OP_RELEASE, .flags = owner ? FLAG_HAS_OWNER : 0, .file = open->inode, .generation = open->generation,
                             .open_file = open->number, .owner = owner ? owner->number : 0};
