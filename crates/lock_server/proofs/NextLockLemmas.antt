@@ -1,5 +1,5 @@
 -- The first byte lock from an owner's byte on, where the owners are gone through one after another: for `LockFile::next_lock`.
-use Rattle.lock_server.proofs.Common.{ℕ, ◌≡◌, ◌+◌, ◌<◌, ◌≤◌, ◌∙◌, inl, inr, sym, subst, arith, Some, None, [], ◌∷◌, cases_lt, IsRun, Lock, FileState, EndsBefore, IsByteLock, IsEarlier, IsFirstFrom, lock_place}
+use Rattle.lock_server.proofs.Common.{ℕ, ◌≡◌, ◌+◌, ◌<◌, ◌≤◌, ◌∙◌, inl, inr, refl, sym, subst, arith, Some, None, [], ◌∷◌, cases_lt, IsRun, Lock, FileState, untouched, EndsBefore, IsByteLock, IsEarlier, IsFirstFrom, lock_place}
 use Rattle.lock_server.specs.Listing.{BeginBefore, IsFirstRunFrom}
 
 -- a byte lock is of an owner that has a mode on some byte
@@ -8,6 +8,10 @@ no_lock F lock none is_lock =
     let some : F.bytes lock.owner lock.span.first ≡ Some lock.mode = is_lock.constant lock.span.first is_lock.covered in
     let h : Some lock.mode ≡ None = sym some ∙ none lock.span.first in
     cc
+
+-- of a file without an entry none is listed
+pub none_listed : (owner byte : ℕ) → EndsBefore lock_place (IsByteLock untouched) (owner ∷ byte ∷ [])
+none_listed owner byte = record { earlier = λ lock is_lock. absurd (no_lock untouched lock (λ any. refl) is_lock) }
 
 module _ (F : FileState) (owner byte : ℕ) where
   -- each lock of an owner up to this one comes before the place
