@@ -4,10 +4,9 @@ from __future__ import annotations
 
 import os
 import signal
-import threading
 from pathlib import Path
 
-from fusetest.descriptions import UNTOLD, soon
+from fusetest.descriptions import UNTOLD
 from fusetest.observe import Child, handle_signals, see
 from fusetest.records import ask, by_another, opened
 from harness.calls import flock
@@ -78,37 +77,6 @@ def signals(path: Path) -> None:
         see(f"{command}: the killed one's lock was never set", wait_for(held, command), "ok")
         ask(held, "setlkw", "w", 0, 0)
         flock(held, "ex", False)
-    os.close(held)
-
-
-def closed_meanwhile(path: Path) -> None:
-    """A thread's descriptor is closed while it waits: once the lock is granted its call fails, and no lock is left."""
-    held = opened(path)
-    ask(held, "setlk", "w", 0, 0)
-
-    def act(self: Child) -> None:
-        os.close(held)
-        descriptor = opened(path)
-
-        def close() -> None:
-            self.stand_by()
-            os.close(descriptor)
-            self.tell("closed")
-
-        closer = threading.Thread(target=close)
-        closer.start()
-        self.tell(ask(descriptor, "setlkw", "w", 0, 0))
-        closer.join()
-        signal.pause()
-
-    child = Child(act)
-    child.falls_asleep()
-    child.go_on()
-    see("another thread closes the descriptor", child.hear(), "closed")
-    ask(held, "setlk", "u", 0, 0)
-    see("the wait fails", child.hear(), "EBADF")
-    see("and nothing is locked", soon(lambda: ask(held, "setlk", "w", 0, 0), "ok"), "ok")
-    stop(child)
     os.close(held)
 
 

@@ -14,8 +14,8 @@
  *
  * One thread reads requests and answers them. What a lock request comes to is the library's to say: nothing here compares locks, queues a
  * wait or looks for a deadlock. To the library a file is its node's number, an owner the number that the kernel gives it, a ticket the
- * address of what is kept of the request that waits, which no other has until it is answered. The kernel doesn't tell open file description
- * locks from record locks, so each wait for bytes is one that a deadlock is looked for with. */
+ * address of the request that waits, which no other request has until it is answered. The kernel doesn't tell open file description locks
+ * from record locks, so each wait for bytes is one that a deadlock is looked for with. */
 #define _GNU_SOURCE
 #include "lockfs.h"
 #include "dehokuna.h"
@@ -77,7 +77,15 @@ static struct path path_of(fuse_ino_t file) {
 
 /* ---- The log of refused requests */
 
+/* A request that waits, which the log needs where it ends by a signal. */
+struct waiting {
+    fuse_req_t request;
+    struct asked asked;
+    struct waiting *next;
+};
+
 static FILE *refusals; /* NULL: there is no log */
+static struct waiting *waiting;
 
 struct asked asked_for_bytes(fuse_req_t request, fuse_ino_t file, const char *call, const struct flock *lock) {
     struct asked asked = {.file = file, .thread = fuse_req_ctx(request)->pid};
@@ -140,6 +148,25 @@ static void refuse(fuse_req_t request, const struct asked *asked, int error) {
     fuse_reply_err(request, error);
 }
 
+/* Where there is no memory, the log won't have it. */
+static void keep_for_log(fuse_req_t request, const struct asked *asked) {
+    struct waiting *kept = refusals ? malloc(sizeof *kept) : NULL;
+    if (!kept) return;
+    *kept = (struct waiting){request, *asked, waiting};
+    waiting = kept;
+}
+
+/* The request waits no more; with an error, it is told. */
+static void leave_log(fuse_req_t request, int error) {
+    struct waiting **at = &waiting;
+    while (*at && (*at)->request != request) at = &(*at)->next;
+    struct waiting *kept = *at;
+    if (!kept) return;
+    if (error) tell_refusal(&kept->asked, error);
+    *at = kept->next;
+    free(kept);
+}
+
 /* ---- Locks */
 
 static struct asker *asker_of(const struct node *node, uint64_t owner, uint32_t family) {
@@ -165,8 +192,8 @@ static bool remember(struct node *node, uint64_t owner, uint32_t family, uint64_
 }
 
 /* false: there is no memory. */
-static bool note(fuse_ino_t file, uint64_t owner, uint64_t open_file, pid_t pid) {
-    return remember(node_of(file), owner, DEHOKUNA_BYTES, open_file, pid) && dehokuna_note(&server, file, owner, open_file);
+static bool note(fuse_ino_t file, const struct fuse_file_info *info, pid_t pid) {
+    return remember(node_of(file), info->lock_owner, DEHOKUNA_BYTES, info->fh, pid) && dehokuna_note(&server, file, info->lock_owner, info->fh);
 }
 
 static pid_t pid_of(const struct node *node, uint64_t owner, uint32_t family) {
@@ -190,40 +217,32 @@ static void forget_askers(struct node *node, bool (*is_meant)(const struct asker
     }
 }
 
-/* A request that may wait: who asks for what through which open file. Its address is its ticket. */
-struct waiting {
-    fuse_req_t request;
-    struct asked asked;
-    uint64_t owner, open_file;
-    uint32_t family;
-    pid_t pid;
-};
-
-static uint64_t ticket_of(const struct waiting *waiting) { return (uintptr_t)waiting; }
-static struct waiting *waiting_of(uint64_t ticket) { return (struct waiting *)(uintptr_t)ticket; }
-
-static void end_wait(struct waiting *waiting, int error) {
-    if (error) log_refusal(&waiting->asked, error);
-    fuse_reply_err(waiting->request, error);
-    free(waiting);
-}
+static uint64_t ticket_of(fuse_req_t request) { return (uintptr_t)request; }
 
 static void answer_grants(void) {
-    for (uint64_t ticket; dehokuna_next_grant(&server, &ticket);) end_wait(waiting_of(ticket), 0);
+    uint64_t ticket;
+    while (dehokuna_next_grant(&server, &ticket)) {
+        fuse_req_t request = (fuse_req_t)(uintptr_t)ticket;
+        leave_log(request, 0);
+        fuse_reply_err(request, 0);
+    }
 }
 
 /* A signal came while the request waited, or its process was killed. One that was granted is answered already. */
-static void interrupted(fuse_req_t request, void *waiting) {
-    (void)request;
-    if (dehokuna_cancel(&server, ticket_of(waiting))) end_wait(waiting, EINTR);
+static void interrupted(fuse_req_t request, void *unused) {
+    (void)unused;
+    if (dehokuna_cancel(&server, ticket_of(request))) {
+        leave_log(request, EINTR);
+        fuse_reply_err(request, EINTR);
+    }
     answer_grants();
 }
 
-static void let_wait(struct waiting *waiting) {
+static void let_wait(fuse_req_t request) {
     /* Where the signal came before the request, libfuse would call `interrupted` inside the registration, and then use the request that
      * was answered. */
-    if (fuse_req_interrupted(waiting->request)) interrupted(waiting->request, waiting);
-    else fuse_req_interrupt_func(waiting->request, interrupted, waiting);
+    if (fuse_req_interrupted(request)) interrupted(request, NULL);
+    else fuse_req_interrupt_func(request, interrupted, NULL);
 }
 
 static int error_of(uint32_t status) {
@@ -237,15 +256,14 @@ static int error_of(uint32_t status) {
 
 static void answer(fuse_req_t request, const struct asked *asked, uint32_t status) {
     int error = error_of(status);
-    if (error) refuse(request, asked, error);
-    else fuse_reply_err(request, 0);
-    answer_grants();
-}
-
-/* Answers a request that may wait, if it doesn't. */
-static void answer_or_wait(struct waiting *waiting, uint32_t status) {
-    if (status == DEHOKUNA_WAITS) let_wait(waiting);
-    else end_wait(waiting, error_of(status));
+    if (status == DEHOKUNA_WAITS) {
+        keep_for_log(request, asked);
+        let_wait(request);
+    } else if (error) {
+        refuse(request, asked, error);
+    } else {
+        fuse_reply_err(request, 0);
+    }
     answer_grants();
 }
 
@@ -277,26 +295,18 @@ struct flock blocker_told(const struct dehokuna_blocker *blocker, pid_t pid) {
     return told;
 }
 
-/* What is kept of a request that may wait; where there is no memory it is refused. */
-static struct waiting *keep(fuse_req_t request, const struct asked *asked, const struct fuse_file_info *info, uint32_t family, pid_t pid) {
-    struct waiting *kept = malloc(sizeof *kept);
-    if (kept) *kept = (struct waiting){request, *asked, info->lock_owner, info->fh, family, pid};
-    else refuse(request, asked, ENOLCK);
-    return kept;
-}
-
 static void lockfs_setlk(fuse_req_t request, fuse_ino_t file, struct fuse_file_info *info, struct flock *lock, int may_wait) {
     uint32_t mode = mode_of(lock->l_type);
-    uint64_t owner = info->lock_owner, first = (uint64_t)lock->l_start, last = last_of(lock);
+    uint64_t first = (uint64_t)lock->l_start, last = last_of(lock);
     struct asked asked = asked_for_bytes(request, file, may_wait ? "setlkw" : "setlk", lock);
-    if (mode != DEHOKUNA_UNLOCK && !note(file, owner, info->fh, lock->l_pid)) {
+    if (mode != DEHOKUNA_UNLOCK && !note(file, info, lock->l_pid)) {
         refuse(request, &asked, ENOLCK);
-    } else if (!may_wait || mode == DEHOKUNA_UNLOCK) {
-        answer(request, &asked, dehokuna_set(&server, file, owner, first, last, mode));
-    } else {
-        struct waiting *kept = keep(request, &asked, info, DEHOKUNA_BYTES, lock->l_pid);
-        if (kept) answer_or_wait(kept, dehokuna_wait(&server, ticket_of(kept), file, owner, first, last, mode, true));
+        return;
     }
+    answer(request, &asked,
+           may_wait && mode != DEHOKUNA_UNLOCK
+               ? dehokuna_wait(&server, ticket_of(request), file, info->lock_owner, first, last, mode, true)
+               : dehokuna_set(&server, file, info->lock_owner, first, last, mode));
 }
 
 static void lockfs_getlk(fuse_req_t request, fuse_ino_t file, struct fuse_file_info *info, struct flock *lock) {
@@ -323,20 +333,17 @@ static void end_earlier(fuse_ino_t file, const struct fuse_file_info *info) {
 
 static void lockfs_flock(fuse_req_t request, fuse_ino_t file, struct fuse_file_info *info, int operation) {
     uint32_t mode = mode_of_flock(operation);
-    uint64_t owner = info->lock_owner;
-    pid_t pid = fuse_req_ctx(request)->pid;
     struct asked asked = asked_by_flock(request, file, operation);
     end_earlier(file, info);
-    if (mode != DEHOKUNA_UNLOCK && !remember(node_of(file), owner, DEHOKUNA_WHOLE, info->fh, pid)) {
+    if (mode != DEHOKUNA_UNLOCK && !remember(node_of(file), info->lock_owner, DEHOKUNA_WHOLE, info->fh, fuse_req_ctx(request)->pid)) {
         refuse(request, &asked, ENOLCK);
         answer_grants();
-    } else if (mode == DEHOKUNA_UNLOCK || operation & LOCK_NB) {
-        answer(request, &asked, dehokuna_flock(&server, file, owner, mode));
-    } else {
-        struct waiting *kept = keep(request, &asked, info, DEHOKUNA_WHOLE, pid);
-        if (kept) answer_or_wait(kept, dehokuna_flock_wait(&server, ticket_of(kept), file, owner, mode));
-        else answer_grants();
+        return;
     }
+    answer(request, &asked,
+           mode == DEHOKUNA_UNLOCK || operation & LOCK_NB
+               ? dehokuna_flock(&server, file, info->lock_owner, mode)
+               : dehokuna_flock_wait(&server, ticket_of(request), file, info->lock_owner, mode));
 }
 
 /* ---- The list of locks */
@@ -396,7 +403,7 @@ static void print_locks(FILE *out, fuse_ino_t file) {
 }
 
 /* The thread that sent the request that waits. */
-static pid_t pid_of_request(uint64_t ticket) { return fuse_req_ctx(waiting_of(ticket)->request)->pid; }
+static pid_t pid_of_request(uint64_t ticket) { return fuse_req_ctx((fuse_req_t)(uintptr_t)ticket)->pid; }
 
 static void print_waits(FILE *out, fuse_ino_t file) {
     struct dehokuna_waiting wait;
@@ -462,23 +469,10 @@ static void free_list(const struct fuse_file_info *info) {
 
 /* ---- Closes */
 
-/* The owner's waits for bytes of the file are noted again, each for its open file; one that can't be ends. */
-static void note_waits(fuse_ino_t file, uint64_t owner) {
-    struct dehokuna_owner_wait wait = {0};
-    for (uint64_t from = 0; dehokuna_next_wait(&server, owner, file, from, owner, &wait) && wait.file == file; from = wait.ticket + 1) {
-        struct waiting *waiting = waiting_of(wait.ticket);
-        if (waiting->family == DEHOKUNA_WHOLE || note(file, owner, waiting->open_file, waiting->pid)) continue;
-        dehokuna_cancel(&server, wait.ticket);
-        end_wait(waiting, ENOLCK);
-    }
-}
-
-/* A descriptor is closed: the record locks of its process on the file go. A wait of another thread stays. Where that thread's descriptor was closed,
- * the kernel answers it by EBADF once the lock is granted, and tells nobody: then the lock goes with the open file. */
+/* A descriptor is closed: the record locks of its process on the file go. */
 static void lockfs_flush(fuse_req_t request, fuse_ino_t file, struct fuse_file_info *info) {
     forget_askers(node_of(file), is_owner, info->lock_owner);
     dehokuna_flush(&server, file, info->lock_owner);
-    note_waits(file, info->lock_owner);
     answer_close(request);
 }
 
@@ -978,15 +972,6 @@ static bool prepare(const struct command *command) {
     return false;
 }
 
-/* Behind the unmount nobody waits for an answer. */
-static void free_waits(void) {
-    struct dehokuna_owner_wait wait = {0};
-    while (dehokuna_next_wait(&server, 0, 0, 0, UINT64_MAX, &wait)) {
-        dehokuna_cancel(&server, wait.ticket);
-        free(waiting_of(wait.ticket));
-    }
-}
-
 int main(int count, char **words) {
     struct command command = {0};
     if (count == 3 && !strcmp(words[1], "--list")) return print_list(words[2]) ? 0 : 1;
@@ -1000,8 +985,8 @@ int main(int count, char **words) {
     umask(0);
     bool served = run(words[0], &command);
     tdestroy(nodes, forget_node);
-    free_waits();
     dehokuna_destroy(&server);
+    while (waiting) leave_log(waiting->request, 0);
     if (refusals) fclose(refusals);
     close(root.descriptor);
     return served ? 0 : 1;
