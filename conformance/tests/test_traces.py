@@ -44,6 +44,14 @@ class TraceTest(unittest.TestCase):
             status = main([str(path), "--lockreplay", str(LOCKREPLAY), *flags])
         return status, printed.getvalue()
 
+    def told_of_parts(self, text: str, *flags: str) -> tuple[int, str]:
+        """The same of what strace writes with `-ff`: a file for each task of this text."""
+        for line in text.splitlines(keepends=True):
+            task, rest = line.split(" ", 1)
+            with open(self.folder / f"parts.{task}", "a", encoding="utf-8") as part:
+                part.write(rest)
+        return self.told_of(self.folder / "parts", *flags)
+
     def assert_run(self, text: str, expected: list[str], last: str, *flags: str) -> str:
         """The run of a log has these events, and ends with this line."""
         status, printed = self.told(text, *flags)
@@ -291,6 +299,54 @@ class Answers(TraceTest):
         status, printed = self.told(text, "--fail-on", "lost")
         self.assertEqual(status, 3, printed)
         self.assertIn("1#2 lets go of its old lock", printed)
+
+
+class Execs(TraceTest):
+    """What an exec keeps: the process, its record locks, and the descriptors that aren't to be closed on exec (POSIX.1-2017 exec)."""
+
+    # Of a log of strace 6.1: thread 12 of process 10 calls execve, while its child 11 waits for a lock of /d/a, which that closes, and not of /d/b.
+    THREAD = "clone3({flags=CLONE_VM|CLONE_FS|CLONE_FILES|CLONE_SIGHAND|CLONE_THREAD, stack_size=0x7fff80} => {parent_tid=[12]}, 88) = 12"
+    BEFORE = (
+        '10 openat(AT_FDCWD</d>, "a", O_RDWR|O_CREAT|O_CLOEXEC, 0600) = 3</d/a>',
+        '10 openat(AT_FDCWD</d>, "b", O_RDWR|O_CREAT, 0600) = 4</d/b>',
+        f"10 fcntl(3</d/a>, F_SETLK, {WRITE}) = 0",
+        f"10 fcntl(4</d/b>, F_SETLK, {WRITE}) = 0",
+        "10 clone(child_stack=NULL, flags=CLONE_CHILD_CLEARTID|CLONE_CHILD_SETTID|SIGCHLD, child_tidptr=0x7f56bd72ca10) = 11",
+        '11 openat(AT_FDCWD</d>, "a", O_RDWR) = 5</d/a>',
+        '11 openat(AT_FDCWD</d>, "b", O_RDWR) = 6</d/b>',
+        f"10 {THREAD}",
+        "10 futex(0x7f9160dbb990, FUTEX_WAIT_BITSET|FUTEX_CLOCK_REALTIME, 12, NULL, FUTEX_BITSET_MATCH_ANY <unfinished ...>",
+        f"11 fcntl(5</d/a>, F_SETLKW, {WRITE} <unfinished ...>",
+    )
+    BEHIND = (
+        "10 +++ superseded by execve in pid 12 +++",
+        "10 <... execve resumed>) = 0",
+        "11 <... fcntl resumed>) = 0",
+        f"11 fcntl(6</d/b>, F_SETLK, {WRITE}) = {AGAIN}",
+        "10 exit_group(0)   = ?",
+        f"10 {ENDED}",
+        f"11 fcntl(6</d/b>, F_SETLK, {WRITE}) = 0",
+    )
+    EXEC = '12 execve("/bin/sleep", ["sleep", "0.1"], 0x7fff252fa4b8 /* 35 vars */'
+
+    def test_an_exec_by_a_thread(self) -> None:
+        for cut in ("<unfinished ...>", "<pid changed to 10 ...>"):
+            with self.subTest(cut):
+                status, printed = self.told(log(*self.BEFORE, f"{self.EXEC} {cut}", *self.BEHIND))
+                self.assertEqual((status, printed.splitlines()[-1]), (0, "all 5 answers as in the log"), printed)
+                self.assertIn("1 execve(), close-on-exec descriptor 3\n", printed)
+
+    def test_an_exec_by_a_thread_in_a_file_of_its_own(self) -> None:
+        calls = [call.replace(" <unfinished ...>", ") = 0") for call in self.BEFORE if "futex" not in call]
+        behind = [call.replace("<... fcntl resumed>) = 0", "getpid() = 11") for call in self.BEHIND]
+        status, printed = self.told_of_parts(log(*calls, f"{self.EXEC} <pid changed to 10 ...>", *behind))
+        self.assertEqual((status, printed.splitlines()[-1]), (0, "all 5 answers as in the log"), printed)
+
+    def test_an_exec_by_a_thread_of_a_program_that_ran_before(self) -> None:
+        one, other = f"12 fcntl(4</d/b>, F_SETLK, {WRITE}) = 0", f"10 fcntl(4</d/b>, F_SETLK, {UNLOCK}) = 0"
+        text = log(one, f"{self.EXEC} <pid changed to 10 ...>", *self.BEHIND[:2], other)
+        printed = self.assert_run(text, ["1#1 set /d/b w 0 end | ok", "1#2 unlock /d/b 0 end | ok"], "all 2 answers as in the log")
+        self.assertIn("sleep[10] fcntl", printed)
 
 
 class Names(TraceTest):

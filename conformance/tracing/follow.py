@@ -7,7 +7,7 @@ from collections import defaultdict
 from dataclasses import dataclass, field
 from typing import Iterator, Optional
 
-from tracing.log import Call, Log, shown_path
+from tracing.log import SUPERSEDED, Call, Log, shown_path
 from tracing.tables import Description, Descriptor, File, Files, Process, Table, Task, is_lock_call, made_whole
 
 OPENS = ("open", "openat", "openat2", "creat")
@@ -137,10 +137,11 @@ class Follower:
     def follow(self) -> Followed:
         """All that the log says."""
         for call, is_end in marks(self.log):
+            number = call.task if call.ends_as is None else call.ends_as
             if not is_end:
                 self.begins(self.task_of(call), call)
-            elif call.task in self.tasks:
-                self.ended(self.tasks[call.task], call)
+            elif number in self.tasks:
+                self.ended(self.tasks[number], call)
         return self.found
 
     # Tasks
@@ -318,8 +319,18 @@ class Follower:
         table.tasks.discard(task.number)
         del self.tasks[task.number]
         table.last = max(table.last, self.ends[call.begin])
-        if not table.tasks and not call.arguments.startswith("superseded"):
+        if superseded := SUPERSEDED.match(call.arguments):
+            self.take_over(int(superseded[1]), task)
+        elif not table.tasks:
             self.end_table(task, call, table.last)
+
+    def take_over(self, number: int, leader: Task) -> None:
+        """A thread goes on with the number of the leader, which its exec ended."""
+        thread = self.tasks.pop(number, leader)
+        thread.table.tasks.discard(number)
+        thread.table.tasks.add(leader.number)
+        thread.number = thread.process.pid = leader.number
+        self.tasks[leader.number] = thread
 
     def end_table(self, task: Task, call: Call, begin: int) -> None:
         what = f"end of {task.process} ({call.arguments})"

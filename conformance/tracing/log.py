@@ -18,7 +18,9 @@ LINE = re.compile(rf"^\s*{TASK}\s*{TIME}(?P<rest>(?:[a-z_]\w*\(|<\.\.\. |--- |\+
 RESUMED = re.compile(r"^<\.\.\. (?P<name>\w+) resumed>\s?(?P<more>.*)$")
 CALL = re.compile(r"^(?P<name>\w+)\((?P<arguments>.*)$")
 RESULT = re.compile(r"^(?P<arguments>.*)\)\s+= (?P<value>-?\d+|0x[0-9a-f]+|\?)(?P<rest>.*)$")
-CUT = re.compile(r"\s*<(?:unfinished \.\.\.|detached \.\.\.|ptrace\(SYSCALL\):[^>]*)>\s*")
+CUT = re.compile(r"\s*<(?:unfinished \.\.\.|detached \.\.\.|pid changed to \d+ \.\.\.|ptrace\(SYSCALL\):[^>]*)>\s*")
+# A leader's line where another thread's exec ended it: that thread goes on with the leader's number (ptrace(2)).
+SUPERSEDED = re.compile(r"superseded by execve in pid (\d+)")
 LASTED = re.compile(r"\s*<(?P<seconds>\d+\.\d+)>$")
 # From here on a count of seconds is a moment of the epoch, and below it the time since the line before.
 EPOCH = 100_000_000.0
@@ -46,6 +48,8 @@ class Call:
     shown: str = ""
     # When it ended, where the log tells.
     until: Optional[float] = None
+    # The number that its task has as it ends, where an exec changed that.
+    ends_as: Optional[int] = None
 
     @property
     def succeeded(self) -> bool:
@@ -103,11 +107,10 @@ def parted(text: str) -> Iterator[str]:
 
 
 class TaskReader:
-    """Reads the lines of one file into calls. Of a file of `-ff` `alone` is the task that it is of."""
+    """Reads the lines of one file into calls. Of a file of `-ff` `alone` is the task that it is of, and the open calls are those of all files."""
 
-    def __init__(self, log: Log, alone: Optional[int]) -> None:
-        self.log, self.alone = log, alone
-        self.open_calls: dict[int, Call] = {}
+    def __init__(self, log: Log, alone: Optional[int], open_calls: dict[int, Call]) -> None:
+        self.log, self.alone, self.open_calls = log, alone, open_calls
         self.clock: Optional[float] = None
         self.days = 0.0
         self.understood = 0
@@ -141,6 +144,7 @@ class TaskReader:
         """Takes in what stands behind the time."""
         if rest.startswith("+++"):
             self.open_calls.pop(task, None)
+            self.supersede(task, rest)
             self.add(Call(task, number, time, "ended", rest.strip("+ "), value=0), number, True)
         elif rest.startswith("---"):
             self.add(Call(task, number, time, "signal", rest.strip("- "), value=0), number, True)
@@ -156,6 +160,14 @@ class TaskReader:
             else:
                 call.arguments = CUT.sub("", found["arguments"])
                 self.open_calls[task] = call
+
+    def supersede(self, task: int, rest: str) -> None:
+        """Gives a leader the exec that another thread began."""
+        found = SUPERSEDED.search(rest)
+        call = self.open_calls.pop(int(found[1]), None) if found else None
+        if call is not None:
+            call.ends_as = task
+            self.open_calls[task] = call
 
     def add(self, call: Call, number: int, ends: bool) -> None:
         call.begin = number
@@ -211,7 +223,7 @@ def read_log(path: Path) -> Log:
     if parts:
         return merged(path, parts)
     log = Log(path.name)
-    reader = TaskReader(log, None)
+    reader = TaskReader(log, None, {})
     reader.read(lines_of(path))
     if not reader.understood:
         raise NotALog(f"{path} has no line of strace")
@@ -234,15 +246,10 @@ def merged(path: Path, parts: list[Path]) -> Log:
     next line."""
     log = Log(path.name)
     ends: list[tuple[float, int, Call]] = []
-    for part in parts:
-        own = Log(part.name)
-        TaskReader(own, int(part.suffix[1:])).read(lines_of(part))
-        if any(call.time is None or call.time < EPOCH and not has_clock(part) for call in own.calls):
-            raise NotALog(f"{part} has no times by which the files of -ff can be merged: run strace with -ttt")
-        for call, follower in zip(own.calls, [*own.calls[1:], None]):
-            ends.append((call.time or 0.0, 0, call))
-            if call.end is not None:
-                ends.append((end_of(call, follower), 1, call))
+    for call, follower in read_parts(parts):
+        ends.append((call.time or 0.0, 0, call))
+        if call.end is not None:
+            ends.append((end_of(call, follower), 1, call))
     if not ends:
         raise NotALog(f"{path}.* have no line of strace")
     for place, (_, is_end, call) in enumerate(sorted(ends, key=lambda it: it[:2]), 1):
@@ -256,11 +263,29 @@ def merged(path: Path, parts: list[Path]) -> Log:
     return log
 
 
+def read_parts(parts: list[Path]) -> list[tuple[Call, Optional[Call]]]:
+    """The calls of files of single tasks, each with its task's next one. A file whose task ends as another is read before that one's."""
+    open_calls: dict[int, Call] = {}
+    found: list[tuple[Call, Optional[Call]]] = []
+    for part in sorted(parts, key=lambda it: not changes_pid(it)):
+        own = Log(part.name)
+        TaskReader(own, int(part.suffix[1:]), open_calls).read(lines_of(part))
+        if any(call.time is None or call.time < EPOCH and not has_clock(part) for call in own.calls):
+            raise NotALog(f"{part} has no times by which the files of -ff can be merged: run strace with -ttt")
+        found += zip(own.calls, [*own.calls[1:], None])
+    return found
+
+
 def end_of(call: Call, follower: Optional[Call]) -> float:
     """When a call was over: before its task's next line at the latest, and times are told by the microsecond."""
     if call.until is None and follower is not None and follower.time is not None:
         return max(follower.time - 0.5e-6, call.time or 0.0)
     return call.until or call.time or 0.0
+
+
+def changes_pid(part: Path) -> bool:
+    """Whether the file's task goes on with another number, in that number's file."""
+    return any("<pid changed to " in line for line in lines_of(part))
 
 
 def has_clock(part: Path) -> bool:
