@@ -329,6 +329,20 @@ class Execs(TraceTest):
     )
     EXEC = '12 execve("/bin/sleep", ["sleep", "0.1"], 0x7fff252fa4b8 /* 35 vars */'
 
+    def last_of(self, *calls: str) -> str:
+        """The last line for an exec behind these calls of a process that has a lock, where another is refused the lock then."""
+        other = ('11 openat(AT_FDCWD</d>, "a", O_RDWR|O_CLOEXEC) = 3</d/a>', f"11 fcntl(3</d/a>, F_SETLK, {WRITE}) = {AGAIN}")
+        execed = '10 execve("/bin/sleep", ["sleep", "0.1"], 0x7ffd0700abd0 /* 38 vars */) = 0'
+        return self.told(log(*calls, f"10 fcntl(3</d/a>, F_SETLKW, {WRITE}) = 0", execed, *other))[1].splitlines()[-1]
+
+    def test_descriptors_that_an_exec_keeps(self) -> None:
+        kept, closed = "all 2 answers as in the log", "all 2 answers as in the log, if somebody outside the log holds bytes 0 to the end of /d/a"
+        cloexec, plain = (f'10 openat(AT_FDCWD</d>, "a", O_RDWR|O_CREAT{flag}, 0777) = 3</d/a>' for flag in ("|O_CLOEXEC", ""))
+        self.assertEqual(self.last_of(cloexec, "10 ioctl(3</d/a>, FIONCLEX) = 0"), kept)
+        self.assertEqual(self.last_of(cloexec, "10 fcntl(3</d/a>, F_SETFD, 0) = 0"), kept)
+        self.assertEqual(self.last_of(plain, "10 ioctl(3</d/a>, FIOCLEX) = 0"), closed)
+        self.assertEqual(self.last_of(cloexec, "10 ioctl(3</d/a>, FIONCLEX) = -1 EBADF (Bad file descriptor)"), closed)
+
     def test_an_exec_by_a_thread(self) -> None:
         for cut in ("<unfinished ...>", "<pid changed to 10 ...>"):
             with self.subTest(cut):

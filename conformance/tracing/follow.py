@@ -404,6 +404,13 @@ class Follower:
             if one:
                 one.closes_on_exec = "FD_CLOEXEC" in call.arguments
 
+    def on_ioctl(self, task: Task, call: Call) -> None:
+        """What CPython does in place of F_SETFD."""
+        request = call.words()[-1]
+        one = self.descriptor(task, call) if request in ("FIOCLEX", "FIONCLEX") else None
+        if one:
+            one.closes_on_exec = request == "FIOCLEX"
+
     def on_lseek(self, task: Task, call: Call) -> None:
         one = self.descriptor(task, call)
         if one:
