@@ -158,6 +158,19 @@ class Refused(TraceTest):
         (self.folder / "empty").write_text("")
         self.assert_refused(self.folder / "empty", "no line of strace")
 
+    def test_what_strace_wrote_on_standard_error(self) -> None:
+        calls = (
+            'openat(AT_FDCWD</d>, "a", O_RDWR) = 3</d/a>',
+            "flock(3</d/a>, LOCK_EX) = 0",
+            "clone(child_stack=NULL, flags=CLONE_CHILD_CLEARTID|CLONE_CHILD_SETTID|SIGCHLDstrace: Process 11 attached",
+            ", child_tidptr=0x7f4be8938a10) = 11",
+            "[pid    11] exit_group(0) = ?",
+            "[pid    11] +++ exited with 0 +++",
+            "flock(3</d/a>, LOCK_UN) = 0",
+        )
+        (self.folder / "error").write_text("".join(f"{call}\n" for call in calls))
+        self.assert_refused(self.folder / "error", "with -o")
+
     def test_a_finding_that_there_is_none_of(self) -> None:
         self.assertEqual(self.told(log(f"1 fcntl(3</d/a>, F_SETLK, {WRITE}) = 0"), "--fail-on", "dropt")[0], 2)
 

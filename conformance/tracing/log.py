@@ -114,6 +114,8 @@ class TaskReader:
         self.clock: Optional[float] = None
         self.days = 0.0
         self.understood = 0
+        # Which columns of tasks its lines have.
+        self.columns: set[str] = set()
 
     def read(self, lines: Iterable[str]) -> None:
         """Takes in all lines. A place of the log's order is a line."""
@@ -122,6 +124,7 @@ class TaskReader:
             if not found:
                 continue
             self.understood += 1
+            self.columns.add("[pid N]" if found["bracketed"] else "N" if found["bare"] else "")
             task = self.alone or int(found["bracketed"] or found["bare"] or 0)
             self.log.places = number + 1
             self.read_rest(task, number, self.moment(found), found["rest"])
@@ -227,6 +230,9 @@ def read_log(path: Path) -> Log:
     reader.read(lines_of(path))
     if not reader.understood:
         raise NotALog(f"{path} has no line of strace")
+    # (there strace leaves the task out while there is one, and the line of a fork may be broken in two)
+    if {"", "[pid N]"} <= reader.columns:
+        raise NotALog(f"{path} is what strace wrote on standard error, where not every line has its task: write it with -o")
     set_beginning(log)
     return log
 
