@@ -44,13 +44,13 @@ class TraceTest(unittest.TestCase):
             status = main([str(path), "--lockreplay", str(LOCKREPLAY), *flags])
         return status, printed.getvalue()
 
-    def told_of_parts(self, text: str, *flags: str) -> tuple[int, str]:
+    def told_of_parts(self, text: str) -> tuple[int, str]:
         """The same of what strace writes with `-ff`: a file for each task of this text."""
         for line in text.splitlines(keepends=True):
             task, rest = line.split(" ", 1)
             with open(self.folder / f"parts.{task}", "a", encoding="utf-8") as part:
                 part.write(rest)
-        return self.told_of(self.folder / "parts", *flags)
+        return self.told_of(self.folder / "parts")
 
     def assert_run(self, text: str, expected: list[str], last: str, *flags: str) -> str:
         """The run of a log has these events, and ends with this line."""
@@ -126,6 +126,38 @@ class Forms(TraceTest):
         self.assertEqual(printed.splitlines()[-1], "all 3 answers as in the log")
         events = [line for line in printed.splitlines() if line.startswith(("1#", "2#"))]
         self.assertEqual(events, ["1#1 set /d/a w 0 end | ok", "1#2 unlock /d/a 0 end | ok", "2#1 wait /d/a w 0 end | ok"])
+
+    def assert_same_of_parts(self, text: str, last: str, last_of_parts: str) -> str:
+        """A log is explained and ends with this line, and so is the same by a file for each task; what is printed of these."""
+        self.assertEqual(self.told(text)[1].splitlines()[-1], last)
+        status, printed = self.told_of_parts(text)
+        self.assertEqual((status, printed.splitlines()[-1]), (0, last_of_parts), printed)
+        return printed
+
+    def test_lines_that_files_for_each_task_have_in_common(self) -> None:
+        text = log(
+            '10 openat(AT_FDCWD</d>, "a", O_RDWR) = 3</d/a>',
+            f"10 fcntl(3</d/a>, F_SETLK, {WRITE}) = {AGAIN}",
+            f"10 {ENDED}",
+            '11 openat(AT_FDCWD</d>, "b", O_RDWR) = 3</d/b>',
+            f"11 fcntl(3</d/b>, F_SETLK, {WRITE}) = 0",
+        )
+        last = "all 2 answers as in the log, if somebody outside the log holds bytes 0 to the end of /d/a"
+        self.assertIn("# line 2 of parts.10: assumed", self.assert_same_of_parts(text, last, last))
+
+    def test_the_open_that_files_for_each_task_have_anew(self) -> None:
+        text = log(
+            '10 openat(AT_FDCWD</d>, "a", O_RDWR) = 3</d/a>',
+            f"10 fcntl(3</d/a>, F_SETLK, {WRITE}) = 0",
+            "10 getpid() = 10",
+            *["11 getpid() = 11"] * 3,
+            '11 openat(AT_FDCWD</d>, "a", O_RDWR) = 3</d/a>',
+            f"11 fcntl(3</d/a>, F_SETLK, {WRITE}) = 0",
+            '10 openat(AT_FDCWD</d>, "a", O_RDWR) = 4</d/a>',
+            f"10 fcntl(4</d/a>, F_SETLK, {WRITE}) = {AGAIN}",
+        )
+        last = "all 3 answers as in the log, if /d/a was unlinked before line "
+        self.assert_same_of_parts(text, last + "7", last + "4 of parts.11")
 
     def test_files_for_each_task_want_times(self) -> None:
         (self.folder / "log.10").write_text("     0.100000 flock(3, LOCK_EX) = 0\n")

@@ -7,7 +7,7 @@ from typing import Iterator, Optional
 
 from tracing.follow import Assumptions, Followed, Follower, Request
 from tracing.history import Event, Judged, Outside, Places, Program, Written, left_unjudged, write
-from tracing.log import Log
+from tracing.log import Call, Log
 
 # The owners of outsiders stand behind those of the log.
 FIRST_OUTSIDER = 2**32
@@ -15,9 +15,9 @@ FIRST_OUTSIDER = 2**32
 
 @dataclass
 class Told:
-    """An assumption that was needed, and the line at which it was."""
+    """An assumption that was needed, and the call at which it was."""
 
-    line: int
+    call: Call
     text: str
 
 
@@ -82,8 +82,8 @@ class Explainer:
         """What comes of a state."""
         found = Follower(self.log, state.assumed).follow()
         left_unjudged(found)
-        by_line = {request.call.line: request for request in found.requests}
-        outsiders = [Outside(by_line[line], FIRST_OUTSIDER + at, mode, span) for at, (line, mode, span) in enumerate(state.outsiders)]
+        by_place = {request.call.begin: request for request in found.requests}
+        outsiders = [Outside(by_place[place], FIRST_OUTSIDER + at, mode, span) for at, (place, mode, span) in enumerate(state.outsiders)]
         written = write(found, state.with_unanswered, outsiders)
         judged = self.program.judge(written)
         impossible = event_at(written, judged.illegal) if judged.illegal is not None else None
@@ -108,19 +108,19 @@ class Explainer:
         others = dict.fromkeys(it.file.path for it in explained.found.requests if it.file and it.file.path != path and it.begin <= at.begin)
         for other in others:
             same = {**assumed.same, max(path, other): min(path, other)}
-            told = Told(at.call.line, f"{path} is {other}")
+            told = Told(at.call, f"{path} is {other}")
             yield state.with_more(told, assumed=Assumptions(same, assumed.parted, assumed.threads))
-        opens = [call.line for call in self.log.calls if call.name.startswith(("open", "creat")) and call.succeeded and call.line < at.call.line]
-        named = [line for line in reversed(opens) if line in explained.found.opened and explained.found.opened[line].path == path]
-        for line in named[: len(named) - 1]:
-            told = Told(at.call.line, f"{path} was unlinked before line {line}")
-            yield state.with_more(told, assumed=Assumptions(assumed.same, {*assumed.parted, line}, assumed.threads))
+        opens = [call for call in self.log.calls if call.begin in explained.found.opened and call.begin < at.call.begin]
+        named = [call for call in reversed(opens) if explained.found.opened[call.begin].path == path]
+        for call in named[: len(named) - 1]:
+            told = Told(at.call, f"{path} was unlinked before {call.said_line}")
+            yield state.with_more(told, assumed=Assumptions(assumed.same, {*assumed.parted, call.begin}, assumed.threads))
 
     def threads(self, state: State, explained: Explained) -> Iterator[State]:
         """Tasks whose start the log lacks are threads of one process."""
         at, starts, assumed = explained.impossible, explained.found.unknown_starts, state.assumed
         if at is not None and len(starts) > 1 and not assumed.threads:
-            told = Told(at.call.line, f"tasks {', '.join(map(str, starts))} are threads of one process")
+            told = Told(at.call, f"tasks {', '.join(map(str, starts))} are threads of one process")
             yield state.with_more(told, assumed=Assumptions(assumed.same, assumed.parted, True))
 
     def outside(self, state: State, explained: Explained) -> Iterator[State]:
@@ -132,9 +132,9 @@ class Explainer:
         mode = at.mode if is_get else "r" if at.mode == "w" else "w"
         first, last = at.span or (0, 0)
         where = f"bytes {first} to {said_last(last)} of {at.file.path}" if not at.is_whole_file else f"a flock lock of {at.file.path}"
-        told = Told(at.call.line, f"somebody outside the log holds {where}")
+        told = Told(at.call, f"somebody outside the log holds {where}")
         for span in dict.fromkeys([(first, last)] if is_get else [(first, last), (first, first), (last, last)]):
-            yield state.with_more(told, outsiders=[*state.outsiders, (at.call.line, mode, span)])
+            yield state.with_more(told, outsiders=[*state.outsiders, (at.call.begin, mode, span)])
 
 
 def event_at(written: Written, line: int) -> Optional[Event]:
@@ -150,7 +150,7 @@ def helps(new: Explained, old: Explained) -> bool:
 def place_of(explained: Explained) -> tuple[int, int]:
     """Where the impossible answer stands in the log."""
     at = explained.impossible
-    return (at.end or 0, at.call.line) if at is not None else (0, 0)
+    return (at.end or 0, at.call.begin) if at is not None else (0, 0)
 
 
 def said_last(last: int) -> str:

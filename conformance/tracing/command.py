@@ -81,7 +81,8 @@ def print_run(options: argparse.Namespace, explained: Explained, teller: Teller,
         for line in shown:
             print(line.as_json())
         for finding in findings:
-            print(json.dumps({"finding": finding.kind, "line": finding.line, "text": finding.text, "why": WHY[finding.kind]}))
+            where = {"line": finding.call.line, "where": finding.call.said_line}
+            print(json.dumps({"finding": finding.kind, **where, "text": finding.text, "why": WHY[finding.kind]}))
         print(json.dumps({"end": ending(explained)}))
         return
     if options.timeline:
@@ -90,9 +91,9 @@ def print_run(options: argparse.Namespace, explained: Explained, teller: Teller,
         print("".join(line.text() for line in shown), end="")
     for made_up in explained.found.made_up:
         if any(it.file is made_up.file for it in explained.found.requests):
-            print(f"# line {made_up.line}: descriptor {made_up.descriptor} of {made_up.process} was open before the log began: {made_up.file.path}")
+            print(f"# {made_up.call.said_line}: descriptor {made_up.descriptor} of {made_up.process} was open before the log began: {made_up.file.path}")
     for told in explained.told:
-        print(f"# line {told.line}: assumed: {told.text}")
+        print(f"# {told.call.said_line}: assumed: {told.text}")
     for finding in findings:
         if finding.kind not in QUIET:
             print(f"# {finding}\n#   {WHY[finding.kind]}")

@@ -67,7 +67,7 @@ class Release:
 class MadeUp:
     """A descriptor that was open before the log began, as its path says."""
 
-    line: int
+    call: Call
     descriptor: int
     process: Process
     file: File
@@ -82,10 +82,10 @@ class Followed:
     processes: list[Process] = field(default_factory=list)
     files: list[File] = field(default_factory=list)
     owners: dict[int, str] = field(default_factory=dict)
-    # What the open at a line of the log opened.
+    # What the open that begins at a place of the log opened.
     opened: dict[int, File] = field(default_factory=dict)
-    # By unlink or rename onto a name: its line, the name, and who had the file open and a lock on it.
-    unlinked: list[tuple[int, str, list[Process]]] = field(default_factory=list)
+    # By unlink or rename onto a name: the call, the name, and who had the file open and a lock on it.
+    unlinked: list[tuple[Call, str, list[Process]]] = field(default_factory=list)
     made_up: list["MadeUp"] = field(default_factory=list)
     unknown_starts: list[int] = field(default_factory=list)
 
@@ -210,20 +210,20 @@ class Follower:
             return None
         one = task.table.descriptors.get(fd)
         if one is None and path.startswith("/"):
-            return self.made_up(task, fd, path.replace("(deleted)", "").strip(), call.line)
+            return self.made_up(task, fd, path.replace("(deleted)", "").strip(), call)
         if one is not None and path:
             self.files.seen(one.description.file, path)
         return one
 
-    def made_up(self, task: Task, fd: int, path: str, line: int) -> Descriptor:
+    def made_up(self, task: Task, fd: int, path: str, call: Call) -> Descriptor:
         """A descriptor that was open before the log began. Where the log didn't open or close this number in the process or in those that it
         stems from, it is the one that they all have."""
         description = None if fd in task.table.known else self.inherited.get((fd, path))
         if description is None:
-            description = Description(self.new_owner(f"descriptor {fd} of {task.process}"), self.files.named(path), line, None)
+            description = Description(self.new_owner(f"descriptor {fd} of {task.process}"), self.files.named(path), call.line, None)
             self.inherited.setdefault((fd, path), description)
-            self.found.made_up.append(MadeUp(line, fd, task.process, description.file))
-        self.refer(task.table, fd, description, False, line)
+            self.found.made_up.append(MadeUp(call, fd, task.process, description.file))
+        self.refer(task.table, fd, description, False, call.line)
         return task.table.descriptors[fd]
 
     def drop(self, table: Table, fd: int, call: Call, begin: int, end: Optional[int], process: Process, what: str) -> None:
@@ -361,8 +361,8 @@ class Follower:
     def on_open(self, task: Task, call: Call) -> None:
         path = call.shown if call.shown.startswith("/") else "" if call.shown else self.named_path(task, call)
         if path:
-            file = self.files.opened(path.replace("(deleted)", "").strip(), call.line)
-            self.found.opened[call.line] = file
+            file = self.files.opened(path.replace("(deleted)", "").strip(), call.begin)
+            self.found.opened[call.begin] = file
             name = f"descriptor {call.value} of {task.process}"
             description = Description(self.new_owner(name), file, call.line)
             self.refer(task.table, call.value or 0, description, "O_CLOEXEC" in call.arguments, call.line)
@@ -452,7 +452,7 @@ class Follower:
         locked = {it.process.number for it in self.found.requests if it.file is file and it.answer == "ok"}
         if file is not None:
             holders = [it for it in self.having_open(file) if it.number in locked]
-            self.found.unlinked.append((call.line, path, holders))
+            self.found.unlinked.append((call, path, holders))
 
     def on_link(self, task: Task, call: Call) -> None:
         self.files.linked(self.named_path(task, call), self.named_path(task, call, 1))

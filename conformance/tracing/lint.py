@@ -7,6 +7,7 @@ from typing import Iterator, Optional
 
 from tracing.assume import Explained
 from tracing.follow import Release, Request
+from tracing.log import Call
 from tracing.tell import Held, Line, Teller, held_in
 
 # By finding, the sentence of the manual that it is an instance of.
@@ -29,14 +30,14 @@ QUIET = ("busy", "interrupted")
 
 @dataclass
 class Finding:
-    """A finding, with the place of the log where it shows."""
+    """A finding, with the call of the log where it shows."""
 
     kind: str
-    line: int
+    call: Call
     text: str
 
     def __str__(self) -> str:
-        return f"{self.kind}: line {self.line}: {self.text}"
+        return f"{self.kind}: {self.call.said_line}: {self.text}"
 
 
 class Linter:
@@ -49,7 +50,7 @@ class Linter:
     def findings(self) -> list[Finding]:
         """All findings, in the log's order."""
         found = [*self.released(), *self.answered(), *self.families(), *self.orders(), *self.waits(), *self.unlinked()]
-        return sorted(found, key=lambda it: it.line)
+        return sorted(found, key=lambda it: it.call.begin)
 
     def released(self) -> Iterator[Finding]:
         """Locks that a close dropped while the file was still open, or that a fork or an exec lost."""
@@ -59,22 +60,22 @@ class Linter:
                 for note in line.notes:
                     if note.startswith("dropped") and "still open" in note:
                         kind = "executed" if event.what.startswith("execve") else "dropped"
-                        yield Finding(kind, event.call.line, f"{event.process} {event.what} {note}")
+                        yield Finding(kind, event.call, f"{event.process} {event.what} {note}")
                 if event.is_end and line.notes and event.inherited_by:
                     heirs = ", ".join(str(it) for it in event.inherited_by)
-                    yield Finding("forked", event.call.line, f"{line.notes[0]}, and {heirs} has the file open without it")
+                    yield Finding("forked", event.call, f"{line.notes[0]}, and {heirs} has the file open without it")
 
     def answered(self) -> Iterator[Finding]:
         """What single answers show."""
         for line in self.lines:
             event = line.event
             if line.request.startswith("lets go") and isinstance(event, Request) and (event.answer != "ok" or event.begin != event.end):
-                yield Finding("lost", event.call.line, f"{event.process} lost {', '.join(line.notes).replace('dropped ', '')} as it asked for another mode")
+                yield Finding("lost", event.call, f"{event.process} lost {', '.join(line.notes).replace('dropped ', '')} as it asked for another mode")
             elif isinstance(event, Request) and event.answer == "EDEADLK":
-                yield Finding("deadlock", event.call.line, f"{event.process} was told EDEADLK")
+                yield Finding("deadlock", event.call, f"{event.process} was told EDEADLK")
             elif isinstance(event, Request) and event.answer in ("busy", "EINTR"):
                 kind = "busy" if event.answer == "busy" else "interrupted"
-                yield Finding(kind, event.call.line, f"{event.process} {line.request} was told {line.answer}" + "".join(f"; {it}" for it in line.notes))
+                yield Finding(kind, event.call, f"{event.process} {line.request} was told {line.answer}" + "".join(f"; {it}" for it in line.notes))
 
     def families(self) -> Iterator[Finding]:
         """One file locked by flock and by fcntl, by different programs."""
@@ -86,7 +87,8 @@ class Linter:
             if len(both) == 2 and both[True].process.program != both[False].process.program:
                 one, other = both[True], both[False]
                 path = one.file.path if one.file else "?"
-                yield Finding("families", max(one.call.line, other.call.line), f"{path} is locked by flock ({one.process}) and by fcntl ({other.process})")
+                later = max(one.call, other.call, key=lambda it: it.begin)
+                yield Finding("families", later, f"{path} is locked by flock ({one.process}) and by fcntl ({other.process})")
 
     def orders(self) -> Iterator[Finding]:
         """Two locks that two processes took in opposite orders."""
@@ -105,7 +107,7 @@ class Linter:
                 reverse = taken.get((name, other))
                 if other != name and reverse is not None and reverse.process is not request.process and (name, other) not in told:
                     told |= {(name, other), (other, name)}
-                    yield Finding("orders", request.call.line, f"{request.process} took {other} and then {name}, {reverse.process} the other way round (line {reverse.call.line})")
+                    yield Finding("orders", request.call, f"{request.process} took {other} and then {name}, {reverse.process} the other way round ({reverse.call.said_line})")
                 taken.setdefault((other, name), request)
             if name not in held:
                 held.append(name)
@@ -123,11 +125,11 @@ class Linter:
             ways = "; ".join(f"{lock} of {self.teller.owner(lock.owner)}{self.teller.set_by(lock)}" for lock in edges[request.process.number])
             cycle = self.cycle(request, edges)
             text = f"{request.process} waited at the end of the log" + (f" for {ways}" if ways else "") + (f"; deadlock: {cycle}" if cycle else "")
-            yield Finding("stuck", request.call.line, text)
+            yield Finding("stuck", request.call, text)
         for request in self.requests:
             lasted = request.call.lasted
             if self.slow is not None and lasted is not None and lasted > self.slow and request.waits:
-                yield Finding("slow", request.call.line, f"{request.process} waited {lasted:.3f} s")
+                yield Finding("slow", request.call, f"{request.process} waited {lasted:.3f} s")
 
     def cycle(self, request: Request, edges: dict[int, list[Held]]) -> str:
         """The processes of a cycle of waits, if the request's is in one."""
@@ -144,6 +146,6 @@ class Linter:
 
     def unlinked(self) -> Iterator[Finding]:
         """A lock file that was unlinked while it was locked."""
-        for line, path, owners in self.explained.found.unlinked:
+        for call, path, owners in self.explained.found.unlinked:
             if owners:
-                yield Finding("unlinked", line, f"{path} was unlinked while {' and '.join(map(str, owners))} had it open and locked")
+                yield Finding("unlinked", call, f"{path} was unlinked while {' and '.join(map(str, owners))} had it open and locked")

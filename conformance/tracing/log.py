@@ -50,6 +50,8 @@ class Call:
     until: Optional[float] = None
     # The number that its task has as it ends, where an exec changed that.
     ends_as: Optional[int] = None
+    # The file of `-ff` that it is in.
+    part: str = ""
 
     @property
     def succeeded(self) -> bool:
@@ -64,6 +66,11 @@ class Call:
     def lasted(self) -> Optional[float]:
         """How many seconds it took, where the log tells."""
         return None if self.until is None or self.time is None else self.until - self.time
+
+    @property
+    def said_line(self) -> str:
+        """Where it stands: the files of `-ff` count their lines apart."""
+        return f"line {self.line}" + (f" of {self.part}" if self.part else "")
 
     def field(self, name: str) -> str:
         """A field of a struct among the arguments, as `l_type`."""
@@ -175,6 +182,7 @@ class TaskReader:
     def add(self, call: Call, number: int, ends: bool) -> None:
         call.begin = number
         call.end = number if ends else None
+        call.part = self.log.name if self.alone else ""
         self.log.calls.append(call)
 
     def finish(self, call: Call, text: str, number: int, until: Optional[float]) -> None:

@@ -82,7 +82,7 @@ class Task:
 class Files:
     """The files of the log, by the names that they have at a place of it.
 
-    `same` says which paths are names of one file though the log doesn't show why, and `parted` at which lines an open of a path
+    `same` says which paths are names of one file though the log doesn't show why, and `parted` at which places an open of a path
     makes a file anew though the log shows no unlink."""
 
     def __init__(self, same: dict[str, str], parted: set[int]) -> None:
@@ -98,9 +98,9 @@ class Files:
             self.by_path[path] = self.all[-1]
         return self.by_path[path]
 
-    def opened(self, path: str, line: int) -> File:
-        """The file that an open of this name at this line opens."""
-        if line in self.parted:
+    def opened(self, path: str, place: int) -> File:
+        """The file that an open of this name at this place opens."""
+        if place in self.parted:
             self.unlinked(path)
         return self.named(path)
 

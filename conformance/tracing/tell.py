@@ -82,7 +82,7 @@ class Teller:
         """Where an event stands in the log."""
         call = event.call
         time = "" if call.time is None else f"{call.time:.3f} s, "
-        return f"line {call.line}, {time}{event.process} {said_call(event)}"
+        return f"{call.said_line}, {time}{event.process} {said_call(event)}"
 
     def name(self, event: Event) -> str:
         """The number of an event: its process, and which of its requests it is."""
@@ -158,7 +158,7 @@ class Teller:
         """Which request set a lock."""
         for request in self.setters.get((lock.owner, lock.file), []):
             if lock.span is None or request.span is None or (request.span[0] <= lock.span[1] and lock.span[0] <= request.span[1]):
-                return f", set by line {request.call.line} through descriptor {request.call.arguments.split(',')[0].split('<')[0]}"
+                return f", set by {request.call.said_line} through descriptor {request.call.arguments.split(',')[0].split('<')[0]}"
         return ""
 
     def still_open(self, event: Event) -> str:
