@@ -424,6 +424,20 @@ class Names(TraceTest):
         self.assertEqual(self.last(*self.FIRST, "10 close(3</d/a>(deleted)) = 0", *self.second("a", "0")), "all 2 answers as in the log")
         self.assertIn("unlinked: line 3: /d/a", self.told(log(*self.FIRST, '10 unlink("/d/a") = 0', *self.second("a", "0")))[1])
 
+    def test_a_file_that_was_unlinked_before_is_another(self) -> None:
+        both = [f"10 fcntl(3</d/a>(deleted), F_SETLK, {WRITE}) = 0", f"11 fcntl(4</d/a>, F_SETLK, {WRITE}) = 0"]
+        self.assertEqual(self.last(*both), "all 2 answers as in the log")
+        self.assertEqual(self.last(*reversed(both)), "all 2 answers as in the log")
+        self.assertEqual(self.last(*(it.replace("4<", "3<") for it in both)), "all 2 answers as in the log")
+        workers = ("10 flock(3</d/a>, LOCK_EX) = 0", '12 unlink("/d/a") = 0', "11 flock(3</d/a>(deleted), LOCK_EX|LOCK_NB) = 0")
+        self.assertEqual(self.last(*workers), "all 2 answers as in the log")
+
+    def test_names_within_the_folder_that_another_call_shows(self) -> None:
+        text = log(*self.FIRST, '10 unlink("a") = 0', *self.second("a", "0"))
+        self.assertEqual(self.told(text)[1].splitlines()[-1], "all 2 answers as in the log")
+        self.assertIn("unlinked: line 3: /d/a", self.told(text)[1])
+        self.assertEqual(self.last(*self.FIRST, '10 rename("a", "b") = 0', *self.second("b", AGAIN)), "all 2 answers as in the log")
+
     def test_a_renamed_file_is_the_same(self) -> None:
         self.assertEqual(self.last(*self.FIRST, '10 rename("/d/a", "/d/b") = 0', *self.second("b", AGAIN)), "all 2 answers as in the log")
 

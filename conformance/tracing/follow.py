@@ -7,7 +7,7 @@ from collections import defaultdict
 from dataclasses import dataclass, field
 from typing import Iterator, Optional
 
-from tracing.log import SUPERSEDED, Call, Log, shown_path
+from tracing.log import DELETED, SUPERSEDED, Call, Log, shown_path
 from tracing.tables import Description, Descriptor, File, Files, Process, Table, Task, is_lock_call, made_whole
 
 OPENS = ("open", "openat", "openat2", "creat")
@@ -210,18 +210,21 @@ class Follower:
             return None
         one = task.table.descriptors.get(fd)
         if one is None and path.startswith("/"):
-            return self.made_up(task, fd, path.replace("(deleted)", "").strip(), call)
+            return self.made_up(task, fd, path, call)
         if one is not None and path:
             self.files.seen(one.description.file, path)
         return one
 
     def made_up(self, task: Task, fd: int, path: str, call: Call) -> Descriptor:
         """A descriptor that was open before the log began. Where the log didn't open or close this number in the process or in those that it
-        stems from, it is the one that they all have."""
-        description = None if fd in task.table.known else self.inherited.get((fd, path))
+        stems from, it is the one that they all have, if that one's file still has the name, or has it no more where it is shown as deleted."""
+        name = path.replace(DELETED, "")
+        found = [self.inherited.get((fd, it)) for it in (path, name) if fd not in task.table.known]
+        description = next((it for it in found if it and self.files.has(it.file, name) == (path == name)), None)
         if description is None:
             description = Description(self.new_owner(f"descriptor {fd} of {task.process}"), self.files.named(path), call.line, None)
-            self.inherited.setdefault((fd, path), description)
+            if fd not in task.table.known:
+                self.inherited[(fd, path)] = description
             self.found.made_up.append(MadeUp(call, fd, task.process, description.file))
         self.refer(task.table, fd, description, False, call.line)
         return task.table.descriptors[fd]
@@ -275,6 +278,8 @@ class Follower:
 
     def begins(self, task: Task, call: Call) -> None:
         self.open_calls[call.task] = call
+        if call.arguments.startswith("AT_FDCWD<"):
+            task.folder = shown_path(call.arguments[len("AT_FDCWD") :]) or task.folder
         if call.name == "ended":
             self.end_task(task, call)
         elif is_lock_call(call):

@@ -22,6 +22,8 @@ CUT = re.compile(r"\s*<(?:unfinished \.\.\.|detached \.\.\.|pid changed to \d+ \
 # A leader's line where another thread's exec ended it: that thread goes on with the leader's number (ptrace(2)).
 SUPERSEDED = re.compile(r"superseded by execve in pid (\d+)")
 LASTED = re.compile(r"\s*<(?P<seconds>\d+\.\d+)>$")
+# What stands behind the path of a file that was unlinked.
+DELETED = " (deleted)"
 # From here on a count of seconds is a moment of the epoch, and below it the time since the line before.
 EPOCH = 100_000_000.0
 
@@ -210,7 +212,7 @@ def shown_path(text: str) -> str:
     for at, letter in enumerate(text):
         depth += (letter == "<") - (letter == ">" and text[at - 1] not in "-=")
         if depth == 0:
-            return text[1:at] + (" (deleted)" if text.startswith("(deleted)", at + 1) else "")
+            return text[1:at] + (DELETED if text.startswith("(deleted)", at + 1) else "")
     return ""
 
 

@@ -6,7 +6,7 @@ import os
 from dataclasses import dataclass, field
 from typing import Optional
 
-from tracing.log import Call
+from tracing.log import DELETED, Call
 
 
 @dataclass
@@ -104,6 +104,10 @@ class Files:
             self.unlinked(path)
         return self.named(path)
 
+    def has(self, file: File, path: str) -> bool:
+        """Whether this is a name of the file."""
+        return self.by_path.get(self.same.get(path, path)) is file
+
     def linked(self, old: str, new: str) -> None:
         self.by_path[self.same.get(new, new)] = self.named(old)
 
@@ -116,11 +120,11 @@ class Files:
 
     def seen(self, file: File, path: str) -> None:
         """Takes in the path that `-y` shows for a descriptor of the file: it may have been renamed, or unlinked."""
-        if path.endswith("(deleted)"):
-            gone = path[: -len("(deleted)")].rstrip()
-            if self.by_path.get(self.same.get(gone, gone)) is file:
+        if path.endswith(DELETED):
+            gone = path[: -len(DELETED)]
+            if self.has(file, gone):
                 self.unlinked(gone)
-        elif self.by_path.get(self.same.get(path, path)) is not file and path.startswith("/"):
+        elif not self.has(file, path) and path.startswith("/"):
             for name in [name for name, it in self.by_path.items() if it is file]:
                 del self.by_path[name]
             self.by_path[self.same.get(path, path)] = file
