@@ -465,6 +465,32 @@ class Names(TraceTest):
         self.assertIn("line 4", printed.splitlines()[0])
 
 
+class Findings(TraceTest):
+    """What went wrong, and what only looks as if it did."""
+
+    def status_of(self, finding: str, *calls: str) -> int:
+        """The exit status where this finding is asked for: 3 just where it is there."""
+        status, printed = self.told(log(*calls), "--fail-on", finding)
+        self.assertTrue(printed.splitlines()[-1].startswith("all "), printed)
+        return status
+
+    def both(self, task: int, first: str, second: str, *between: str) -> list[str]:
+        """A process that opens and locks two files, with calls between, and ends."""
+        opens = [f'openat(AT_FDCWD</d>, "{it}", O_RDWR) = {fd}</d/{it}>' for fd, it in ((3, first), (4, second))]
+        locks = [f"fcntl({fd}</d/{it}>, F_SETLK, {WRITE}) = 0" for fd, it in ((3, first), (4, second))]
+        return [f"{task} {call}" for call in (opens[0], locks[0], *between, opens[1], locks[1], "exit_group(0) = ?", ENDED)]
+
+    def test_opposite_orders_of_two_locks(self) -> None:
+        def status(*between: str) -> int:
+            return self.status_of("orders", *self.both(10, "a", "b", *between), *self.both(11, "b", "a"))
+
+        self.assertEqual(status(), 3)
+        self.assertEqual(status(f"fcntl(3</d/a>, F_SETLK, {UNLOCK.replace('l_len=0', 'l_len=5')}) = 0"), 3)
+        self.assertEqual(status(f"fcntl(3</d/a>, F_SETLK, {UNLOCK}) = 0"), 0)
+        self.assertEqual(status("close(3</d/a>) = 0"), 0)
+        self.assertEqual(status("fcntl(3</d/a>, F_SETFD, FD_CLOEXEC) = 0", 'execve("/bin/b", ["b"], 0x7ff) = 0'), 0)
+
+
 class Scripts(TraceTest):
     """What goes wrong in the runs of the samples, as the comments at their heads say."""
 

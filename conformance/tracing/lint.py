@@ -91,26 +91,31 @@ class Linter:
                 yield Finding("families", later, f"{path} is locked by flock ({one.process}) and by fcntl ({other.process})")
 
     def orders(self) -> Iterator[Finding]:
-        """Two locks that two processes took in opposite orders."""
-        holding: dict[int, list[str]] = {}
+        """Two locks that two processes took in opposite orders, each while it had the first one."""
         taken: dict[tuple[str, str], Request] = {}
         told: set[tuple[str, str]] = set()
-        for request in self.requests:
-            if request.file is None or request.answer != "ok":
-                continue
-            name = f"{request.file.path}{' by flock' if request.is_whole_file else ''}"
-            held = holding.setdefault(request.process.number, [])
-            if request.text.startswith("unlock") or request.text.endswith(" un"):
-                holding[request.process.number] = [it for it in held if it != name]
-                continue
-            for other in held:
-                reverse = taken.get((name, other))
-                if other != name and reverse is not None and reverse.process is not request.process and (name, other) not in told:
-                    told |= {(name, other), (other, name)}
-                    yield Finding("orders", request.call, f"{request.process} took {other} and then {name}, {reverse.process} the other way round ({reverse.call.said_line})")
-                taken.setdefault((other, name), request)
-            if name not in held:
-                held.append(name)
+        for request, other, name in self.taken_behind():
+            reverse = taken.get((name, other))
+            if reverse is not None and reverse.process is not request.process and (name, other) not in told:
+                told |= {(name, other), (other, name)}
+                text = f"{request.process} took {other} and then {name}, {reverse.process} the other way round ({reverse.call.said_line})"
+                yield Finding("orders", request.call, text)
+            taken.setdefault((other, name), request)
+
+    def taken_behind(self) -> Iterator[tuple[Request, str, str]]:
+        """Each request that took a lock, with the name of each other lock that its process had taken and still had, and of its own."""
+        took: set[tuple[int, int, int]] = set()
+        for line in self.lines:
+            request = line.event
+            if isinstance(request, Request) and request.file is not None and took_lock(request) and not line.request.startswith("lets go"):
+                names = [self.lock_name(it.file, it.span is None) for it in line.behind if (request.process.number, it.owner, it.file) in took]
+                took.add((request.process.number, request.owner, request.file.number))
+                own = self.lock_name(request.file.number, request.is_whole_file)
+                yield from ((request, other, own) for other in dict.fromkeys(names) if other != own)
+
+    def lock_name(self, file: int, is_whole_file: bool) -> str:
+        """What a lock of a file is called."""
+        return f"{self.explained.found.files[file].path}{' by flock' if is_whole_file else ''}"
 
     def waits(self) -> Iterator[Finding]:
         """Who waited at the end, and who waited long."""
@@ -149,3 +154,8 @@ class Linter:
         for call, path, owners in self.explained.found.unlinked:
             if owners:
                 yield Finding("unlinked", call, f"{path} was unlinked while {' and '.join(map(str, owners))} had it open and locked")
+
+
+def took_lock(request: Request) -> bool:
+    """Whether a request that was judged was granted a lock."""
+    return request.answer == "ok" and bool(request.text) and not request.text.startswith("unlock") and not request.text.endswith(" un")
