@@ -458,6 +458,17 @@ class Names(TraceTest):
         text = ('10 openat(AT_FDCWD</d>, "a", O_RDWR) = 3</d/a>', f"10 fcntl(3</d/a>, F_SETLK, {WRITE}) = {AGAIN}", f"10 fcntl(3</d/a>, F_SETLK, {WRITE}) = 0")
         self.assertEqual(self.last(*text), "all 2 answers as in the log, if somebody outside the log holds bytes 0 to the end of /d/a")
 
+    def test_a_request_whose_answer_the_log_lacks(self) -> None:
+        text = log(
+            '10 openat(AT_FDCWD</d>, "a", O_RDWR) = 3</d/a>',
+            "10 fork() = 11",
+            f"11 fcntl(3</d/a>, F_SETLKW, {WRITE} <unfinished ...>",
+            f"10 fcntl(3</d/a>, F_SETLK, {WRITE}) = {AGAIN}",
+        )
+        status, printed = self.told(text, "--fail-on", "stuck")
+        self.assertEqual((status, printed.splitlines()[-1]), (0, "all 1 answers as in the log, if a request without an answer had its effect"), printed)
+        self.assertIn("# line 4: assumed: a request without an answer had its effect", printed)
+
     def test_an_answer_that_nothing_gives(self) -> None:
         text = ('10 openat(AT_FDCWD</d>, "a", O_RDWR) = 3</d/a>', f"10 fcntl(3</d/a>, F_SETLK, {WRITE}) = 0", "10 fork() = 11", f"11 fcntl(3</d/a>, F_SETLK, {READ}) = 0")
         status, printed = self.told(log(*text))

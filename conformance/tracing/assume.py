@@ -11,6 +11,7 @@ from tracing.log import Call, Log
 
 # The owners of outsiders stand behind those of the log.
 FIRST_OUTSIDER = 2**32
+UNANSWERED = "a request without an answer had its effect"
 
 
 @dataclass
@@ -47,11 +48,11 @@ class State:
     outsiders: list[tuple[int, str, tuple[int, int]]] = field(default_factory=list)
     told: list[Told] = field(default_factory=list)
 
-    def with_more(self, told: Optional[Told] = None, **changed: object) -> "State":
+    def with_more(self, told: Told, **changed: object) -> "State":
         """The same with one assumption more."""
         values: dict[str, object] = {"assumed": self.assumed, "with_unanswered": self.with_unanswered, "outsiders": self.outsiders}
         values.update(changed)
-        return State(**values, told=[*self.told, *([told] if told else [])])  # type: ignore[arg-type]
+        return State(**values, told=[*self.told, told])  # type: ignore[arg-type]
 
 
 class Explainer:
@@ -96,8 +97,9 @@ class Explainer:
 
     def unanswered(self, state: State, explained: Explained) -> Iterator[State]:
         """Requests without an answer may have had their effect."""
-        if not state.with_unanswered and any(it.text and it.answer is None for it in explained.found.requests):
-            yield state.with_more(with_unanswered=True)
+        at = explained.impossible
+        if at is not None and not state.with_unanswered and any(it.text and it.answer is None for it in explained.found.requests):
+            yield state.with_more(Told(at.call, UNANSWERED), with_unanswered=True)
 
     def names(self, state: State, explained: Explained) -> Iterator[State]:
         """Two names are one file (a link), or one name is two files (unlinked)."""

@@ -121,7 +121,9 @@ class Linter:
         """Who waited at the end, and who waited long."""
         judged = self.explained.judged
         last = held_in(judged.states.get(len(judged.effects), []))
-        waiting = [it for it in self.requests if it.waits and it.answer is None]
+        # (a request without an answer has an effect where that was assumed)
+        done = {id(effect.event) for effect in judged.effects if not effect.is_loss}
+        waiting = [it for it in self.requests if it.waits and it.answer is None and id(it) not in done]
         ends = {it.owner for it in self.explained.found.releases if it.is_end}
         edges = {it.process.number: [lock for lock in last if self.teller.is_in_the_way(it, lock)] for it in waiting}
         for request in waiting:
