@@ -502,6 +502,29 @@ class Findings(TraceTest):
         self.assertEqual(status("fcntl(3</d/a>, F_SETFD, FD_CLOEXEC) = 0", 'execve("/bin/b", ["b"], 0x7ff) = 0'), 0)
 
 
+    def deadlocks(self, *locks: str) -> list[str]:
+        """The processes that are told to wait in a cycle, where thread 15 of 10 and others, by `TASK FILE DESCRIPTOR OPERATION`, open and lock files."""
+        calls = ["10 clone3({flags=CLONE_VM|CLONE_FS|CLONE_FILES|CLONE_SIGHAND|CLONE_THREAD}) = 15"]
+        for task, file, fd, operation in (lock.split() for lock in locks):
+            answer = " <unfinished ...>" if operation.endswith("..") else ") = 0"
+            calls += [f'{task} openat(AT_FDCWD</d>, "{file}", O_RDWR) = {fd}</d/{file}>', f"{task} flock({fd}</d/{file}>, {operation.rstrip('.')}{answer}"]
+        lines = self.told(log(*calls))[1].splitlines()
+        return sorted(line.split(" pid ")[1].split()[0] for line in lines if line.startswith("# stuck") and "deadlock" in line)
+
+    def test_a_deadlock_through_any_holder(self) -> None:
+        for one, other in ((12, 13), (13, 12)):
+            locks = (f"{one} a 3 LOCK_SH", f"{other} a 3 LOCK_SH", "11 b 3 LOCK_EX", "13 b 4 LOCK_EX..", "11 a 4 LOCK_EX..")
+            self.assertEqual(self.deadlocks(*locks), ["11", "13"], one)
+
+    def test_a_deadlock_beside_another_thread_that_waits(self) -> None:
+        locks = ("10 a 3 LOCK_EX", "11 b 3 LOCK_EX", "12 c 3 LOCK_EX", "10 b 4 LOCK_EX..", "11 a 4 LOCK_EX..", "15 c 5 LOCK_EX..")
+        self.assertEqual(self.deadlocks(*locks), ["10", "11"])
+
+    def test_who_waits_for_a_deadlock_is_in_none(self) -> None:
+        locks = ("12 a 3 LOCK_EX", "11 b 3 LOCK_EX", "12 b 4 LOCK_EX..", "11 a 4 LOCK_EX..", "14 a 4 LOCK_EX..")
+        self.assertEqual(self.deadlocks(*locks), ["11", "12"])
+
+
 class Scripts(TraceTest):
     """What goes wrong in the runs of the samples, as the comments at their heads say."""
 

@@ -43,13 +43,13 @@ class Finding:
 class Linter:
     """Looks through an explained log for what went wrong."""
 
-    def __init__(self, explained: Explained, teller: Teller, lines: list[Line], slow: Optional[float]) -> None:
-        self.explained, self.teller, self.lines, self.slow = explained, teller, lines, slow
+    def __init__(self, explained: Explained, teller: Teller, lines: list[Line], limit: Optional[float]) -> None:
+        self.explained, self.teller, self.lines, self.limit = explained, teller, lines, limit
         self.requests = explained.found.requests
 
     def findings(self) -> list[Finding]:
         """All findings, in the log's order."""
-        found = [*self.released(), *self.answered(), *self.families(), *self.orders(), *self.waits(), *self.unlinked()]
+        found = [*self.released(), *self.answered(), *self.families(), *self.orders(), *self.stuck(), *self.slow(), *self.unlinked()]
         return sorted(found, key=lambda it: it.call.begin)
 
     def released(self) -> Iterator[Finding]:
@@ -117,39 +117,42 @@ class Linter:
         """What a lock of a file is called."""
         return f"{self.explained.found.files[file].path}{' by flock' if is_whole_file else ''}"
 
-    def waits(self) -> Iterator[Finding]:
-        """Who waited at the end, and who waited long."""
+    def stuck(self) -> Iterator[Finding]:
+        """Who waited at the end, for whom, and whether in a cycle."""
         judged = self.explained.judged
         last = held_in(judged.states.get(len(judged.effects), []))
         # (a request without an answer has an effect where that was assumed)
-        done = {id(effect.event) for effect in judged.effects if not effect.is_loss}
-        waiting = [it for it in self.requests if it.waits and it.answer is None and id(it) not in done]
+        over = {id(effect.event) for effect in judged.effects if not effect.is_loss}
         ends = {it.owner for it in self.explained.found.releases if it.is_end}
-        edges = {it.process.number: [lock for lock in last if self.teller.is_in_the_way(it, lock)] for it in waiting}
-        for request in waiting:
-            if request.owner in ends:
-                continue
-            ways = "; ".join(f"{lock} of {self.teller.owner(lock.owner)}{self.teller.set_by(lock)}" for lock in edges[request.process.number])
-            cycle = self.cycle(request, edges)
+        waiting = [it for it in self.requests if it.waits and it.answer is None and id(it) not in over and it.owner not in ends]
+        blocked = [(it, [lock for lock in last if self.teller.is_in_the_way(it, lock)]) for it in waiting]
+        for request, locks in blocked:
+            ways = "; ".join(f"{lock} of {self.teller.owner(lock.owner)}{self.teller.set_by(lock)}" for lock in locks)
+            cycle = self.cycle(request, blocked)
             text = f"{request.process} waited at the end of the log" + (f" for {ways}" if ways else "") + (f"; deadlock: {cycle}" if cycle else "")
             yield Finding("stuck", request.call, text)
+
+    def cycle(self, request: Request, blocked: list[tuple[Request, list[Held]]]) -> str:
+        """The processes of a shortest cycle of waits that the request is in, if there is one."""
+        owners = {it.owner: it.process.number for it in self.requests}
+        waits = [(it, owners[lock.owner]) for it, locks in blocked for lock in locks if lock.owner in owners]
+        own = request.process.number
+        paths = [[own, holder] for it, holder in waits if it is request]
+        seen: set[int] = set()
+        for path in paths:
+            if path[-1] == own:
+                return " -> ".join(str(self.teller.numbers.get(number, number)) for number in path)
+            further = {holder: None for it, holder in waits if it.process.number == path[-1] and holder not in seen}
+            seen.update(further)
+            paths += [[*path, holder] for holder in further]
+        return ""
+
+    def slow(self) -> Iterator[Finding]:
+        """Who waited longer than asked for."""
         for request in self.requests:
             lasted = request.call.lasted
-            if self.slow is not None and lasted is not None and lasted > self.slow and request.waits:
+            if self.limit is not None and lasted is not None and lasted > self.limit and request.waits:
                 yield Finding("slow", request.call, f"{request.process} waited {lasted:.3f} s")
-
-    def cycle(self, request: Request, edges: dict[int, list[Held]]) -> str:
-        """The processes of a cycle of waits, if the request's is in one."""
-        owners = {it.owner: it.process.number for it in self.requests}
-        path = [request.process.number]
-        while True:
-            ways = [owners[lock.owner] for lock in edges.get(path[-1], []) if lock.owner in owners]
-            if not ways:
-                return ""
-            if ways[0] in path:
-                around = [*path[path.index(ways[0]) :], ways[0]]
-                return " -> ".join(str(self.teller.numbers.get(number, number)) for number in around)
-            path.append(ways[0])
 
     def unlinked(self) -> Iterator[Finding]:
         """A lock file that was unlinked while it was locked."""
