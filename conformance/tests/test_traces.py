@@ -328,6 +328,21 @@ class Answers(TraceTest):
         text = log(self.OPEN, '10 read(3</d/a>, "abc", 3) = 3', f"10 fcntl(3</d/a>, F_SETLK, {current}) = 0")
         self.assert_run(text, ["1#1 set /d/a w 3 7 | ok"], "all 1 answers as in the log")
 
+    def test_the_offset_behind_a_write_to_the_end(self) -> None:
+        """POSIX.1-2017 write: with O_APPEND the offset is set to the end of the file before each write."""
+
+        def printed(flag: str, *between: str) -> str:
+            opened = f'openat(AT_FDCWD</d>, "a", O_RDWR{flag}) = 3</d/a>'
+            calls = (opened, *between, "fcntl(3</d/a>, F_SETLK, {l_type=F_WRLCK, l_whence=SEEK_CUR, l_start=0, l_len=5}) = 0")
+            return self.told(log(*(f"10 {call}" for call in calls)))[1]
+
+        written = 'write(3</d/a>, "0123456789", 10) = 10'
+        self.assertIn("all 1 answers as in the log, 1 not judged", printed("|O_APPEND", written))
+        self.assertIn("all 1 answers as in the log, 1 not judged", printed("", "fcntl(3</d/a>, F_SETFL, O_RDWR|O_APPEND) = 0", written))
+        self.assertIn("1#1 set /d/a w 1010 1014 | ok", printed("|O_APPEND", written, "lseek(3</d/a>, 0, SEEK_CUR) = 1010"))
+        self.assertIn("1#1 set /d/a w 3 7 | ok", printed("|O_APPEND", 'read(3</d/a>, "abc", 3) = 3'))
+        self.assertIn("1#1 set /d/a w 10 14 | ok", printed("|O_APPEND", "fcntl(3</d/a>, F_SETFL, O_RDWR) = 0", written))
+
     def test_calls_without_effect_count_as_answered(self) -> None:
         text = log(self.OPEN, f"10 fcntl(9, F_SETLK, {WRITE}) = -1 EBADF (Bad file descriptor)", f"10 fcntl(3</d/a>, F_SETLK, {WRITE}) = 0")
         self.assertEqual(self.told(text)[1].splitlines()[-1], "all 2 answers as in the log")

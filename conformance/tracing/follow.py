@@ -222,7 +222,7 @@ class Follower:
         found = [self.inherited.get((fd, it)) for it in (path, name) if fd not in task.table.known]
         description = next((it for it in found if it and self.files.has(it.file, name) == (path == name)), None)
         if description is None:
-            description = Description(self.new_owner(f"descriptor {fd} of {task.process}"), self.files.named(path), call.line, None)
+            description = Description(self.new_owner(f"descriptor {fd} of {task.process}"), self.files.named(path), call.line, None, True)
             if fd not in task.table.known:
                 self.inherited[(fd, path)] = description
             self.found.made_up.append(MadeUp(call, fd, task.process, description.file))
@@ -369,7 +369,7 @@ class Follower:
             file = self.files.opened(path.replace("(deleted)", "").strip(), call.begin)
             self.found.opened[call.begin] = file
             name = f"descriptor {call.value} of {task.process}"
-            description = Description(self.new_owner(name), file, call.line)
+            description = Description(self.new_owner(name), file, call.line, may_append="O_APPEND" in call.arguments)
             self.refer(task.table, call.value or 0, description, "O_CLOEXEC" in call.arguments, call.line)
 
     def named_path(self, task: Task, call: Call, first: int = 0) -> str:
@@ -408,6 +408,10 @@ class Follower:
             one = self.descriptor(task, call)
             if one:
                 one.closes_on_exec = "FD_CLOEXEC" in call.arguments
+        elif "F_SETFL" in call.arguments:
+            one = self.descriptor(task, call)
+            if one:
+                one.description.may_append = "O_APPEND" in call.arguments
 
     def on_ioctl(self, task: Task, call: Call) -> None:
         """What CPython does in place of F_SETFD."""
@@ -422,9 +426,11 @@ class Follower:
             one.description.offset = call.value
 
     def on_moves(self, task: Task, call: Call) -> None:
-        """A read or a write moves the offset."""
+        """A read or a write moves the offset; a write with O_APPEND behind the end of the file, which the log doesn't show."""
         one = self.descriptor(task, call)
-        if one and one.description.offset is not None:
+        if one and one.description.may_append and call.name.startswith("write"):
+            one.description.offset = None
+        elif one and one.description.offset is not None:
             one.description.offset += call.value or 0
 
     def on_keeps(self, task: Task, call: Call) -> None:

@@ -25,6 +25,8 @@ class Description:
     file: File
     line: int
     offset: Optional[int] = 0
+    # Whether a write may go to the end of the file: O_APPEND.
+    may_append: bool = False
     holders: set[tuple[int, int]] = field(default_factory=set)
     # Where its closes began and ended, and whether something that the log doesn't follow may keep it open.
     closes: list[tuple[int, Optional[int]]] = field(default_factory=list)
