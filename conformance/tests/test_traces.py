@@ -423,6 +423,43 @@ class Execs(TraceTest):
         self.assertIn("sleep[10] fcntl", printed)
 
 
+class Quiet(TraceTest):
+    """Logs of strace -qq, which shows no end but those by a signal; as strace 6.1 writes them."""
+
+    OPEN = '10 openat(AT_FDCWD</d>, "a", O_RDWR) = 3</d/a>'
+    FORK = "10 clone(child_stack=NULL, flags=CLONE_CHILD_CLEARTID|CLONE_CHILD_SETTID|SIGCHLD, child_tidptr=0x7fa82f2eca10) = 11"
+    LOCK = f"10 fcntl(3</d/a>, F_SETLK, {WRITE}) = 0"
+    THREAD = "10 clone3({flags=CLONE_VM|CLONE_FS|CLONE_FILES|CLONE_SIGHAND|CLONE_THREAD, stack_size=0x7fff80} => {parent_tid=[12]}, 88) = 12"
+
+    def last(self, *calls: str) -> str:
+        """The last line for these calls of process 10, whose child is 11, and of its thread 12."""
+        return self.told(log(self.OPEN, self.FORK, self.THREAD, self.LOCK, *calls))[1].splitlines()[-1]
+
+    def test_an_exit_ends_all_threads(self) -> None:
+        calls = (
+            f"11 fcntl(3</d/a>, F_SETLKW, {WRITE} <unfinished ...>",
+            f"12 fcntl(3</d/a>, F_SETLK, {READ} <unfinished ...>",
+            "10 exit_group(0 <unfinished ...>",
+            "12 <... fcntl resumed>) = 0",
+            "10 <... exit_group resumed>) = ?",
+            "11 <... fcntl resumed>) = 0",
+            "11 exit_group(0)   = ?",
+        )
+        self.assertEqual(self.last(*calls), "all 3 answers as in the log")
+        calls = ("12 pause( <unfinished ...>", "10 exit_group(0)   = ?", "12 <... pause resumed>) = ?", calls[0], calls[5])
+        self.assertEqual(self.last(*calls), "all 2 answers as in the log")
+
+    def test_an_exit_of_a_thread_ends_it_alone(self) -> None:
+        calls = (f"11 fcntl(3</d/a>, F_SETLK, {WRITE}) = {AGAIN}", "10 exit_group(0)   = ?", f"11 fcntl(3</d/a>, F_SETLK, {WRITE}) = 0")
+        self.assertEqual(self.last("12 exit(0)   = ?", *calls), "all 3 answers as in the log")
+        self.assertEqual(self.last("10 exit(0)   = ?", "12 exit(0)   = ?", calls[2]), "all 2 answers as in the log")
+        self.assertIn("no order", self.told(log(self.OPEN, self.FORK, self.THREAD, self.LOCK, "10 exit(0)   = ?", calls[2]))[1])
+
+    def test_an_exec_ends_the_other_threads(self) -> None:
+        calls = ('10 execve("/bin/b", ["b"], 0x7ff) = 0', f"10 fcntl(3</d/a>, F_SETLK, {UNLOCK}) = 0", f"11 fcntl(3</d/a>, F_SETLK, {WRITE}) = 0")
+        self.assertEqual(self.last("12 pause( <unfinished ...>", *calls), "all 3 answers as in the log")
+
+
 class Names(TraceTest):
     """Files and their names."""
 

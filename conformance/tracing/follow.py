@@ -4,7 +4,7 @@ from __future__ import annotations
 
 import re
 from collections import defaultdict
-from dataclasses import dataclass, field
+from dataclasses import dataclass, field, replace
 from typing import Iterator, Optional
 
 from tracing.log import DELETED, SUPERSEDED, Call, Log, shown_path
@@ -13,6 +13,18 @@ from tracing.tables import Description, Descriptor, File, Files, Process, Table,
 OPENS = ("open", "openat", "openat2", "creat")
 FORKS = ("fork", "vfork", "clone", "clone3")
 COMMANDS = re.compile(r"\bF_(?P<ofd>OFD_)?(?P<what>GETLK|SETLKW|SETLK)(?:64)?\b")
+# Calls that are followed as another one is.
+SAME = {
+    "dup3": "dup2",
+    "fcntl64": "fcntl",
+    "execveat": "execve",
+    "unlinkat": "unlink",
+    "renameat": "rename",
+    "renameat2": "rename",
+    "linkat": "link",
+    "_llseek": "lseek",
+    "exit_group": "exit",
+}
 LARGEST_OFFSET = 2**63 - 1
 WITHOUT_EFFECT = ("EBADF", "EINVAL", "EOVERFLOW")
 REFUSED = "refused for its arguments"
@@ -111,6 +123,8 @@ class Follower:
         self.children = self.children_told()
         self.reads_traced = any(call.name in ("read", "write", "pread64", "pwrite64", "readv", "writev") for call in log.calls)
         self.ends = self.table_ends()
+        # By task, the place of the last line that says that a task of this number ended.
+        self.last_ends = {call.task: call.begin for call in log.calls if call.name == "ended"}
         self.open_calls: dict[int, Call] = {}
         self.inherited: dict[tuple[int, str], Description] = {}
 
@@ -281,7 +295,7 @@ class Follower:
         if call.arguments.startswith("AT_FDCWD<"):
             task.folder = shown_path(call.arguments[len("AT_FDCWD") :]) or task.folder
         if call.name == "ended":
-            self.end_task(task, call)
+            self.end_task(task, call, self.ends[call.begin])
         elif is_lock_call(call):
             self.lock(task, call)
         elif call.error not in ("EBADF", "EINVAL"):
@@ -318,16 +332,22 @@ class Follower:
         task.table = self.copied(old, task.process)
         task.table.tasks.add(task.number)
 
-    def end_task(self, task: Task, call: Call) -> None:
+    def end_task(self, task: Task, call: Call, last: int) -> None:
         """A task ends, and with the last one of its table all that the table refers to."""
         table = task.table
         table.tasks.discard(task.number)
         del self.tasks[task.number]
-        table.last = max(table.last, self.ends[call.begin])
+        table.last = max(table.last, last)
         if superseded := SUPERSEDED.match(call.arguments):
             self.take_over(int(superseded[1]), task)
         elif not table.tasks:
             self.end_table(task, call, table.last)
+
+    def end_unsaid(self, tasks: list[Task], call: Call, how: str) -> None:
+        """Ends tasks that a call ended, where the log has no line of that: strace -qq leaves it out. Each is over at some moment behind the call."""
+        for task in tasks:
+            if self.last_ends.get(task.number, 0) < call.begin:
+                self.end_task(task, replace(call, name="ended", arguments=how, end=None), call.end or call.begin)
 
     def take_over(self, number: int, leader: Task) -> None:
         """A thread goes on with the number of the leader, which its exec ended."""
@@ -354,9 +374,19 @@ class Follower:
 
     def ended(self, task: Task, call: Call) -> None:
         self.open_calls.pop(call.task, None)
-        handler = getattr(self, f"on_{kind_of(call)}", None)
-        if handler and call.succeeded:
+        kind = kind_of(call)
+        handler = getattr(self, f"on_{kind}", None)
+        # (an exit has no value)
+        if handler and (call.succeeded or kind == "exit"):
             handler(task, call)
+
+    def on_exit(self, task: Task, call: Call) -> None:
+        also = self.threads_beside(task) if call.name == "exit_group" else []
+        self.end_unsaid([*also, task], call, f"exited with {call.arguments}")
+
+    def threads_beside(self, task: Task) -> list[Task]:
+        """The other threads of a task's process."""
+        return [it for it in self.tasks.values() if it.process is task.process and it is not task]
 
     def on_fork(self, task: Task, call: Call) -> None:
         if call.value and call.value not in self.tasks and call in self.children[call.value]:
@@ -396,6 +426,7 @@ class Follower:
             self.refer(task.table, to, one.description, "CLOEXEC" in call.arguments, call.line)
 
     def on_execve(self, task: Task, call: Call) -> None:
+        self.end_unsaid(self.threads_beside(task), call, "ended by an exec")
         self.unshare(task)
         named = re.search(r'"((?:[^"\\]|\\.)*)"', call.arguments)
         task.process.program = named[1].rsplit("/", 1)[-1] if named else task.process.program
@@ -585,8 +616,7 @@ def kind_of(call: Call) -> str:
         return "moves"
     if call.name in ("mmap", "sendmsg"):
         return "keeps"
-    same = {"dup3": "dup2", "fcntl64": "fcntl", "execveat": "execve", "unlinkat": "unlink", "renameat": "rename", "renameat2": "rename", "linkat": "link", "_llseek": "lseek"}
-    return same.get(call.name, call.name)
+    return SAME.get(call.name, call.name)
 
 
 def first_descriptor(call: Call) -> tuple[Optional[int], str]:
