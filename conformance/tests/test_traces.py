@@ -4,6 +4,7 @@ from __future__ import annotations
 
 import contextlib
 import io
+import json
 import lzma
 import random
 import tempfile
@@ -528,6 +529,10 @@ class Names(TraceTest):
         status, printed = self.told(log(*text))
         self.assertEqual(status, 3, printed)
         self.assertIn("line 4", printed.splitlines()[0])
+        status, printed = self.told(log(*text), "--json")
+        objects = [json.loads(line) for line in printed.splitlines()]
+        self.assertEqual((status, [it["line"] for it in objects]), (3, [4]))
+        self.assertIn("no order", objects[0]["end"])
 
 
 class Findings(TraceTest):
@@ -577,6 +582,22 @@ class Findings(TraceTest):
     def test_who_waits_for_a_deadlock_is_in_none(self) -> None:
         locks = ("12 a 3 LOCK_EX", "11 b 3 LOCK_EX", "12 b 4 LOCK_EX..", "11 a 4 LOCK_EX..", "14 a 4 LOCK_EX..")
         self.assertEqual(self.deadlocks(*locks), ["11", "12"])
+
+
+class Objects(TraceTest):
+    """What `--json` prints."""
+
+    def test_each_line_is_an_object(self) -> None:
+        text = log(
+            '10 openat(AT_FDCWD</d>, "a", O_RDWR) = 3</d/a>',
+            f"10 fcntl(3</d/a>, F_SETLK, {WRITE}) = 0",
+            "10 dup(3</d/a>) = 4</d/a>",
+            "10 close(4</d/a>) = 0",
+        )
+        objects = [json.loads(line) for line in self.told(text, "--json")[1].splitlines()]
+        self.assertEqual([it.get("finding") for it in objects], [None, None, "dropped", None])
+        self.assertEqual([it.get("line") for it in objects], [2, 4, 4, None])
+        self.assertEqual(objects[-1], {"end": "all 1 answers as in the log"})
 
 
 class Scripts(TraceTest):

@@ -13,7 +13,7 @@ from harness.command import program_of, why
 from harness.replay import Faulty, Lockreplay
 from tracing.assume import Explained, Explainer
 from tracing.follow import Assumptions, Follower, Request
-from tracing.history import CannotJudge, Places, Program, write
+from tracing.history import CannotJudge, Event, Places, Program, write
 from tracing.lint import QUIET, WHY, Finding, Linter
 from tracing.log import NotALog, read_log
 from tracing.script import log_of_script
@@ -101,18 +101,23 @@ def print_run(options: argparse.Namespace, explained: Explained, teller: Teller,
         print(ending(explained))
 
 
-def print_impossible(explained: Explained, teller: Teller) -> None:
+def print_impossible(options: argparse.Namespace, explained: Explained, teller: Teller) -> None:
     """The first answer that no order gives, with the calls that are open there."""
     at = explained.impossible
     if at is None:
         return
-    print(f"{teller.where(at)}: no order of the log's calls gives this answer")
-    for request in explained.found.requests:
-        is_open = request is not at and request.text and request.file is at.file and request.begin < (at.end or 0) and (request.end is None or request.end > at.begin)
-        if is_open:
-            print(f"# open there: {teller.where(request)}")
-    for line in explained.judged.open_there:
-        print(line)
+    end = f"{teller.where(at)}: no order of the log's calls gives this answer"
+    is_there = [teller.where(it) for it in explained.found.requests if is_open_at(it, at)]
+    if options.json:
+        print(json.dumps({"end": end, "line": at.call.line, "open": is_there, "lockreplay": explained.judged.open_there}))
+    else:
+        print("\n".join([end, *(f"# open there: {it}" for it in is_there), *explained.judged.open_there]))
+
+
+def is_open_at(request: Request, at: Event) -> bool:
+    """Whether a request of the same file is open as another event is answered."""
+    overlaps = request.begin < (at.end or 0) and (request.end is None or request.end > at.begin)
+    return request is not at and bool(request.text) and request.file is at.file and overlaps
 
 
 def explained_of(options: argparse.Namespace, program: Program) -> Explained:
@@ -146,7 +151,7 @@ def main(words: Optional[Sequence[str]] = None) -> int:
         return GAVE_UP
     teller = Teller(explained)
     if explained.impossible is not None:
-        print_impossible(explained, teller)
+        print_impossible(options, explained, teller)
         return FOUND
     lines = teller.lines()
     if not options.no_lint:
