@@ -48,6 +48,8 @@ class TraceTest(unittest.TestCase):
 
     def told_of_parts(self, text: str) -> tuple[int, str]:
         """The same of what strace writes with `-ff`: a file for each task of this text."""
+        for part in self.folder.glob("parts.*"):
+            part.unlink()
         for line in text.splitlines(keepends=True):
             task, rest = line.split(" ", 1)
             with open(self.folder / f"parts.{task}", "a", encoding="utf-8") as part:
@@ -161,6 +163,14 @@ class Forms(TraceTest):
         )
         last = "all 3 answers as in the log, if /d/a was unlinked before line "
         self.assert_same_of_parts(text, last + "7", last + "4 of parts.11")
+
+    def test_a_lock_that_is_free_before_its_holder_s_file_says_so(self) -> None:
+        for before, last in ((["10 exit_group(0)   = ?"], "10 +++ exited with 0 +++"), ([], "10 +++ killed by SIGKILL +++")):
+            with self.subTest(last):
+                opens = [f'{task} openat(AT_FDCWD</d>, "a", O_RDWR) = 3</d/a>' for task in (10, 11)]
+                locks = [f"{task} flock(3</d/a>, LOCK_EX) = 0" for task in (10, 11)]
+                status, printed = self.told_of_parts(log(*opens, *locks, *before, "11 getpid() = 11", last))
+                self.assertEqual((status, printed.splitlines()[-1]), (0, "all 2 answers as in the log"), printed)
 
     def test_files_for_each_task_want_times(self) -> None:
         (self.folder / "log.10").write_text("     0.100000 flock(3, LOCK_EX) = 0\n")

@@ -145,7 +145,8 @@ class Follower:
             if call.name == "ended":
                 ends[call.begin] = last.pop(call.task, call.begin)
             else:
-                last[call.task] = max(call.begin, call.end or 0)
+                # (with -ff a call may have been over long before its end here, which is the latest)
+                last[call.task] = call.begin if call.part else max(call.begin, call.end or 0)
         return ends
 
     def follow(self) -> Followed:
