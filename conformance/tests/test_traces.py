@@ -554,10 +554,10 @@ class Findings(TraceTest):
         self.assertTrue(printed.splitlines()[-1].startswith("all "), printed)
         return status
 
-    def both(self, task: int, first: str, second: str, *between: str) -> list[str]:
+    def both(self, task: int, first: str, second: str, *between: str, command: str = "F_SETLKW") -> list[str]:
         """A process that opens and locks two files, with calls between, and ends."""
         opens = [f'openat(AT_FDCWD</d>, "{it}", O_RDWR) = {fd}</d/{it}>' for fd, it in ((3, first), (4, second))]
-        locks = [f"fcntl({fd}</d/{it}>, F_SETLK, {WRITE}) = 0" for fd, it in ((3, first), (4, second))]
+        locks = [f"fcntl({fd}</d/{it}>, {command}, {WRITE}) = 0" for fd, it in ((3, first), (4, second))]
         return [f"{task} {call}" for call in (opens[0], locks[0], *between, opens[1], locks[1], "exit_group(0) = ?", ENDED)]
 
     def test_opposite_orders_of_two_locks(self) -> None:
@@ -565,6 +565,8 @@ class Findings(TraceTest):
             return self.status_of("orders", *self.both(10, "a", "b", *between), *self.both(11, "b", "a"))
 
         self.assertEqual(status(), 3)
+        # (a request that is refused in place of waiting isn't in a cycle of waits)
+        self.assertEqual(self.status_of("orders", *self.both(10, "a", "b"), *self.both(11, "b", "a", command="F_SETLK")), 0)
         self.assertEqual(status(f"fcntl(3</d/a>, F_SETLK, {UNLOCK.replace('l_len=0', 'l_len=5')}) = 0"), 3)
         self.assertEqual(status(f"fcntl(3</d/a>, F_SETLK, {UNLOCK}) = 0"), 0)
         self.assertEqual(status("close(3</d/a>) = 0"), 0)

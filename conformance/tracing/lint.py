@@ -91,10 +91,10 @@ class Linter:
                 yield Finding("families", later, f"{path} is locked by flock ({one.process}) and by fcntl ({other.process})")
 
     def orders(self) -> Iterator[Finding]:
-        """Two locks that two processes took in opposite orders, each while it had the first one."""
+        """Two locks that two processes took in opposite orders, each while it had the first one, and by a request that could wait for the second."""
         taken: dict[tuple[str, str], Request] = {}
         told: set[tuple[str, str]] = set()
-        for request, other, name in self.taken_behind():
+        for request, other, name in (it for it in self.taken_behind() if it[0].waits):
             reverse = taken.get((name, other))
             if reverse is not None and reverse.process is not request.process and (name, other) not in told:
                 told |= {(name, other), (other, name)}
