@@ -1,9 +1,10 @@
 -- What a run that is taken out, shortened or put in makes of the runs and of their modes.
-use Rattle.std.proofs.Common.{ℕ, zero, suc, ◌≡◌, ◌+◌, ◌<◌, ◌≤◌, ◌⊎◌, inl, inr, Bool, true, false, cond, refl, sym, ap, ◌∙◌, subst, Option, Some, None, List, [], ◌∷◌, length, get_or, take, arith}
+use Rattle.std.proofs.Common.{ℕ, zero, suc, ◌≡◌, ◌≢◌, ◌+◌, ◌<◌, ◌≤◌, ◌⊎◌, inl, inr, Bool, true, false, cond, refl, sym, ap, ◌∙◌, subst, Option, Some, None, List, [], ◌∷◌, length, get_or, take, arith}
 use Rattle.std.specs.List.{AllByRecursion, find}
 use Rattle.std.specs.Option.{IfSome}
-use Rattle.std.proofs.lemmas.Bool.{cases_lt, leb-true, leb-false}
+use Rattle.std.proofs.lemmas.Bool.{cases_lt, le-leb, lt-leb, leb-true, leb-false}
 use Rattle.std.proofs.lemmas.List.Elements.{All-from_recursion}
+use Rattle.range_core.specs.declared.TheConstants.{OFFMAX}
 use Rattle.range_core.specs.declared.Mode.{Mode}
 use Rattle.range_core.specs.declared.Span.{Span}
 use Rattle.range_core.specs.Ranges.{IsApart, IsByteRange, Modes}
@@ -242,6 +243,71 @@ put_at put run runs false test rest = set_behind run put.1 runs (put_before (end
 pub put_modes : (put : Mode × Span) (runs : List (Mode × Span)) → IsSetOn (mode_in runs) (mode_in (put_before (ends_from put.1.first) put runs)) put.1 (Some put.0)
 put_modes put [] = put_first put []
 put_modes put (run ∷ runs) = put_at put run runs (ends_from put.1.first run) refl (put_modes put runs)
+
+-- what begins where a run did that was in front goes in there again
+put_in_front : (first put : Mode × Span) (runs : List (Mode × Span)) → put.1.first ≤ first.1.last → AllByRecursion (IsApart first) runs → AreOrdered runs
+    → put ∷ runs ≡ put_before (ends_from put.1.first) put runs
+put_in_front first put [] begins apart ordered = refl
+put_in_front first put (run ∷ runs) begins apart ordered =
+    let less = apart.0.0 in
+    let some = ordered.0.0 in
+    rw (le-leb put.1.first run.1.last (omega arith)) refl
+
+replaced_at : (p : Mode × Span → Bool) (first run put : Mode × Span) (runs : List (Mode × Span)) (b : Bool) → AreOrdered (first ∷ runs) → cond b (Some first) (find p runs) ≡ Some run
+    → put.1.first ≡ run.1.first → (find p runs ≡ Some run → with_first p put runs ≡ put_before (ends_from put.1.first) put (without_first p runs))
+    → cond b (put ∷ runs) (first ∷ with_first p put runs) ≡ put_before (ends_from put.1.first) put (cond b runs (first ∷ without_first p runs))
+replaced_at p first run put runs true ordered found begins rest =
+    let same : first.1.first ≡ run.1.first = ap (λ (r : Mode × Span). r.1.first) (let is : first ≡ run = cc in is) in
+    let some = ordered.0.0 in
+    put_in_front first put runs (omega arith) ordered.1 ordered.2
+replaced_at p first run put runs false ordered found begins rest =
+    let apart = found_one (IsApart first) p runs run ordered.1 found in
+    let less = apart.0 in
+    rw (lt-leb put.1.first first.1.last (omega arith)) (ap (λ others. first ∷ others) (rest found))
+
+-- a run that is put in place of one that begins where it does stands where it would if that one were taken out first
+pub replaced : (p : Mode × Span → Bool) (runs : List (Mode × Span)) (run put : Mode × Span) → AreOrdered runs → find p runs ≡ Some run → put.1.first ≡ run.1.first
+    → with_first p put runs ≡ put_before (ends_from put.1.first) put (without_first p runs)
+replaced p [] run put ordered found begins = absurd (let no : None ≡ Some run = found in cc)
+replaced p (first ∷ runs) run put ordered found begins = replaced_at p first run put runs (p first) ordered found begins (λ rest. replaced p runs run put ordered.2 rest begins)
+
+-- a longer run in its place gives its bytes its mode
+pub longer_modes : (p : Mode × Span → Bool) (runs : List (Mode × Span)) (run longer : Mode × Span) → AreOrdered runs → find p runs ≡ Some run → longer.1.first ≡ run.1.first → run.1.last ≤ longer.1.last
+    → IsSetOn (mode_in runs) (mode_in (with_first p longer runs)) longer.1 (Some longer.0)
+longer_modes p runs run longer ordered found begins ends =
+    let taken = taken_modes p runs run ordered found in
+    let set = put_modes longer (without_first p runs) in
+    let modes : IsSetOn (mode_in runs) (mode_in (put_before (ends_from longer.1.first) longer (without_first p runs))) longer.1 (Some longer.0) = record {
+      inside = set.inside;
+      below = λ byte low. set.below byte low ∙ taken.below byte (omega arith);
+      above = λ byte high. set.above byte high ∙ taken.above byte (omega arith);
+    } in
+    subst (λ (new : List (Mode × Span)). IsSetOn (mode_in runs) (mode_in new) longer.1 (Some longer.0)) (sym (replaced p runs run longer ordered found begins)) modes
+
+-- once a run that is lengthened is taken out, it leaves a gap for the longer one
+gap_for_longer : (old mid : Modes) (run longer : Mode × Span) → IsWhole old run → IsSetOn old mid run.1 None → longer.0 ≡ run.0 → longer.1.first ≡ run.1.first → run.1.last ≤ longer.1.last
+    → ((byte : ℕ) → run.1.last < byte → byte ≤ longer.1.last → old byte ≡ None) → old (longer.1.last + 1) ≢ Some run.0 → IsGapFor mid longer.0 longer.1
+gap_for_longer old mid run longer whole taken is begins ends free next = record {
+  free = λ byte from upto. elim (cases_lt run.1.last byte) [
+    | inl behind ↦ taken.above byte behind ∙ free byte behind upto
+    | inr inside ↦ taken.inside byte (omega arith) inside
+  ];
+  before = λ byte at has. whole.before byte (at ∙ begins) (sym (taken.below byte (omega arith)) ∙ has ∙ ap Some is);
+  behind = λ has. next (sym (taken.above (longer.1.last + 1) (omega arith)) ∙ has ∙ ap Some is);
+}
+
+-- and where no byte that it gains has a mode, and the one behind them another one, the runs are in order
+pub longer_ordered : (p : Mode × Span → Bool) (runs : List (Mode × Span)) (run longer : Mode × Span) → AreOrdered runs → find p runs ≡ Some run → longer.0 ≡ run.0 → longer.1.first ≡ run.1.first
+    → run.1.last ≤ longer.1.last → longer.1.last ≤ OFFMAX → ((byte : ℕ) → run.1.last < byte → byte ≤ longer.1.last → mode_in runs byte ≡ None) → mode_in runs (longer.1.last + 1) ≢ Some run.0
+    → AreOrdered (with_first p longer runs)
+longer_ordered p runs run longer ordered found mode begins ends upto free behind =
+    let rest = taken_ordered p runs ordered in
+    let whole = found_one (IsWhole (mode_in runs)) p runs run (all_whole runs ordered) found in
+    let range = found_one (λ (r : Mode × Span). IsByteRange r.1) p runs run (all_ranges runs ordered) found in
+    let some = range.0 in
+    let wide : IsByteRange longer.1 = (omega arith, upto) in
+    let gap = gap_for_longer (mode_in runs) (mode_in (without_first p runs)) run longer whole (taken_modes p runs run ordered found) mode begins ends free behind in
+    subst AreOrdered (sym (replaced p runs run longer ordered found begins)) (put_ordered longer (without_first p runs) wide rest (sides longer (without_first p runs) wide.0 rest gap))
 
 -- behind a run the gap for one that is apart from it stays
 gap_behind : (first put : Mode × Span) (runs : List (Mode × Span)) → put.1.first ≤ put.1.last → IsApart first put → IsGapFor (mode_in runs) put.0 put.1 → IsGapFor (mode_in (first ∷ runs)) put.0 put.1

@@ -1,5 +1,5 @@
 -- The run that is found at a byte or behind it, and the one that is found there to conflict.
-use Rattle.std.proofs.Common.{ℕ, ◌≡◌, ◌+◌, ◌<◌, ◌≤◌, Bool, true, false, cond, leb, refl, sym, ap, ◌∙◌, subst, Some, None, List, [], ◌∷◌, arith}
+use Rattle.std.proofs.Common.{ℕ, ◌≡◌, ◌+◌, ◌<◌, ◌≤◌, Bool, true, false, cond, leb, refl, sym, ap, ◌∙◌, subst, Option, Some, None, List, [], ◌∷◌, arith}
 use Rattle.std.specs.List.{AllByRecursion, filter, find}
 use Rattle.std.proofs.lemmas.Bool.{and_from, and_left, and_right, le-leb, lt-leb, leb-true, leb-false}
 use Rattle.range_core.specs.declared.TheConstants.{OFFMAX}
@@ -8,7 +8,7 @@ use Rattle.range_core.specs.declared.Span.{Span}
 use Rattle.range_core.specs.Ranges.{IsApart}
 use Rattle.range_core.specs.Changes.{mode_in}
 use Rattle.owner_runs.specs.Tests.{ends_from, meets}
-use Rattle.owner_runs.specs.Trees.{AreOrdered, IsNextRun}
+use Rattle.owner_runs.specs.Trees.{AreOrdered, IsNext, IsNextRun}
 use Rattle.owner_runs.proofs.ModeLemmas.{above, below}
 use Rattle.owner_runs.proofs.OrderLemmas.{none_upto, whole_behind, whole_first}
 
@@ -59,6 +59,11 @@ none_at byte other first runs false test none from rest =
 pub none_found : (byte other : ℕ) (runs : List (Mode × Span)) → find (ends_from byte) runs ≡ None → byte ≤ other → mode_in runs other ≡ None
 none_found byte other [] none from = refl
 none_found byte other (first ∷ runs) none from = none_at byte other first runs (ends_from byte first) refl none from (λ rest. none_found byte other runs rest from)
+
+-- what is found is the next run from the byte on
+pub next_is : (byte : ℕ) (runs : List (Mode × Span)) (next : Option (Mode × Span)) → AreOrdered runs → next ≡ find (ends_from byte) runs → IsNext runs byte next
+next_is byte runs None ordered is = record { found = is; run = tt; none = λ other from. none_found byte other runs (sym is) from }
+next_is byte runs (Some run) ordered is = record { found = is; run = next_found byte runs run ordered (sym is); none = tt }
 
 -- whether runs behind one meet bytes hangs on the last byte alone
 meets_behind : (from last : ℕ) (run : Mode × Span) (runs : List (Mode × Span)) → AllByRecursion (IsApart run) runs → AreOrdered runs → from ≤ run.1.last → filter (meets from last) runs ≡ filter (meets (run.1.last + 1) last) runs

@@ -4,7 +4,7 @@ use Rattle.std.proofs.lemmas.Bool.{cases_lt}
 use Rattle.range_core.specs.declared.Mode.{Mode}
 use Rattle.range_core.specs.declared.Span.{Span}
 use Rattle.range_core.specs.Ranges.{Covers, IsConstant, IsRun, Modes, SplitsRun}
-use Rattle.owner_runs.specs.Trees.{IsCutOut, IsFreedBefore, IsFreedBehind, IsGapFor, IsNextRun, IsSetOn, IsShortened, IsWhole}
+use Rattle.owner_runs.specs.Trees.{IsCutOut, IsFreedBehind, IsGapFor, IsNextRun, IsSetOn, IsShortened, IsWhole}
 
 -- two modes of one byte are the same
 pub one_mode : (modes : Modes) (byte : ℕ) (mode other : Mode) → modes byte ≡ Some mode → modes byte ≡ Some other → mode ≡ other
@@ -209,40 +209,17 @@ unlocked_all initial old span first unlocked none =
       above = λ byte high. unlocked.above byte (omega arith);
     }
 
--- a run of the mode that ends right before the byte is taken out
-pub freed_before : (old new : Modes) (mode : Mode) (byte : ℕ) (run : Mode × Span) → run.0 ≡ mode → 0 < byte → old byte ≡ None → IsNextRun old (byte - 1) run → run.1.first ≤ byte - 1 → IsSetOn old new run.1 None → IsFreedBefore old new mode run.1.first byte
-freed_before old new mode byte run is some free next begins set =
-    let reaches = next.reaches in
-    let range = next.range.0 in
-    let ends : run.1.last + 1 ≡ byte = elim (cases_lt run.1.last byte) [
-      | inl less ↦ omega arith
-      | inr beyond ↦ absurd (not_free old byte run.0 (next.whole.constant byte (omega arith, beyond)) free)
-    ] in
-    record {
-      ordered = omega arith;
-      had = λ other from upto. next.whole.constant other (from, omega arith) ∙ ap Some is;
-      freed = λ other from upto. set.inside other from (omega arith);
-      below = set.below;
-      above = λ other from. set.above other (omega arith);
-      ends = λ other next_is has. next.whole.before other next_is (sym (set.below other (omega arith)) ∙ has ∙ ap Some (sym is));
-    }
-
--- one that begins right behind it is taken out
-pub freed_behind : (old new : Modes) (mode : Mode) (byte : ℕ) (run : Mode × Span) → run.0 ≡ mode → old byte ≡ None → IsNextRun old (byte + 1) run → run.1.first ≤ byte + 1 → IsSetOn old new run.1 None → IsFreedBehind old new mode byte run.1.last
-freed_behind old new mode byte run is free next begins set =
-    let reaches = next.reaches in
-    let starts : run.1.first ≡ byte + 1 = elim (cases_lt byte run.1.first) [
-      | inl high ↦ omega arith
-      | inr low ↦ absurd (not_free old byte run.0 (next.whole.constant byte (low, omega arith)) free)
-    ] in
-    record {
-      ordered = omega arith;
-      had = λ other from upto. next.whole.constant other (omega arith, upto) ∙ ap Some is;
-      freed = λ other from upto. set.inside other (omega arith) upto;
-      below = λ other upto. set.below other (omega arith);
-      above = set.above;
-      ends = λ has. next.whole.behind (sym (set.above (run.1.last + 1) (omega arith)) ∙ has ∙ ap Some (sym is));
-    }
+-- the next run, which begins right behind the range, is taken out
+pub freed_behind : (old new : Modes) (mode : Mode) (byte : ℕ) (run : Mode × Span) → run.0 ≡ mode → run.1.first ≡ byte + 1 → run.1.first ≤ run.1.last → IsWhole old run → IsSetOn old new run.1 None
+    → IsFreedBehind old new mode byte run.1.last
+freed_behind old new mode byte run is starts some whole set = record {
+  ordered = omega arith;
+  had = λ other from upto. whole.constant other (omega arith, upto) ∙ ap Some is;
+  freed = λ other from upto. set.inside other (omega arith) upto;
+  below = λ other upto. set.below other (omega arith);
+  above = set.above;
+  ends = λ has. whole.behind (sym (set.above (run.1.last + 1) (omega arith)) ∙ has ∙ ap Some (sym is));
+}
 
 -- modes that are the same on each byte have the same runs to split
 pub splits_alike : (modes other : Modes) (span : Span) → ((byte : ℕ) → other byte ≡ modes byte) → SplitsRun other span → SplitsRun modes span

@@ -1,10 +1,12 @@
 -- Runs that are found, and what a change makes of the modes.
-use Rattle.std.specs.Prelude.{◌≡◌, ◌≢◌, ℕ, ◌+◌, ◌<◌, ◌≤◌, ⊤, Option, None, Some, List, [], ◌∷◌, All, AllPairs, Any}
-use Rattle.std.specs.List.{AllByRecursion}
+use Rattle.std.specs.Prelude.{◌≡◌, ◌≢◌, ℕ, ◌+◌, ◌<◌, ◌≤◌, ⊤, Option, None, Some, IfNone, IfSome, List, [], ◌∷◌, All, AllPairs, Any}
+use Rattle.std.specs.List.{AllByRecursion, find}
 use Rattle.range_core.specs.declared.Mode.{Mode}
 use Rattle.range_core.specs.declared.Span.{Span}
+use Rattle.range_core.specs.Changes.{mode_in}
 use Rattle.range_core.specs.Ranges.{IsApart, IsByteRange, IsConstant, IsRun, Modes}
 use Rattle.range_core.specs.Replacing.{Touches}
+use Rattle.owner_runs.specs.Tests.{ends_from}
 
 -- each run has a byte and lies within a file, and is apart from those behind it
 abbrev pub AreOrdered : List (Mode × Span) → Type 0
@@ -24,6 +26,12 @@ pub record IsNextRun (modes : Modes) (byte : ℕ) (run : Mode × Span) : Type 0 
   pub reaches : byte ≤ run.1.last
   pub free : (other : ℕ) → byte ≤ other → other < run.1.first → modes other ≡ None
 
+-- this is the first run that ends at the byte or behind it, or none
+pub record IsNext (runs : List (Mode × Span)) (byte : ℕ) (next : Option (Mode × Span)) : Type 0 where
+  pub found : next ≡ find (ends_from byte) runs
+  pub run : IfSome next (IsNextRun (mode_in runs) byte)
+  pub none : IfNone next ((other : ℕ) → byte ≤ other → mode_in runs other ≡ None)
+
 -- the piece is of the run's mode, has a byte, and lies within the run
 pub record IsPieceOf (run piece : Mode × Span) : Type 0 where
   pub mode : piece.0 ≡ run.0
@@ -31,9 +39,13 @@ pub record IsPieceOf (run piece : Mode × Span) : Type 0 where
   pub first : run.1.first ≤ piece.1.first
   pub last : piece.1.last ≤ run.1.last
 
+-- no byte of the range has a mode
+abbrev pub IsFree : Modes → Span → Type 0
+IsFree modes span = (byte : ℕ) → span.first ≤ byte → byte ≤ span.last → modes byte ≡ None
+
 -- no byte of the range has a mode, and none right beside it has this one
 pub record IsGapFor (modes : Modes) (mode : Mode) (span : Span) : Type 0 where
-  pub free : (byte : ℕ) → span.first ≤ byte → byte ≤ span.last → modes byte ≡ None
+  pub free : IsFree modes span
   pub before : (byte : ℕ) → byte + 1 ≡ span.first → modes byte ≢ Some mode
   pub behind : modes (span.last + 1) ≢ Some mode
 
@@ -58,15 +70,6 @@ pub record IsCutOut (old new : Modes) (run span : Span) : Type 0 where
   pub above : (byte : ℕ) → span.last < byte → new byte ≡ old byte
   pub before : (byte : ℕ) → byte < run.first → new byte ≡ old byte
   pub behind : (byte : ℕ) → run.last < byte → new byte ≡ old byte
-
--- the bytes from the one up to the other, which had the mode, have none any more, and the one before them doesn't have it
-pub record IsFreedBefore (old new : Modes) (mode : Mode) (from upto : ℕ) : Type 0 where
-  pub ordered : from ≤ upto
-  pub had : (byte : ℕ) → from ≤ byte → byte < upto → old byte ≡ Some mode
-  pub freed : (byte : ℕ) → from ≤ byte → byte < upto → new byte ≡ None
-  pub below : (byte : ℕ) → byte < from → new byte ≡ old byte
-  pub above : (byte : ℕ) → upto ≤ byte → new byte ≡ old byte
-  pub ends : (byte : ℕ) → byte + 1 ≡ from → new byte ≢ Some mode
 
 -- the bytes behind the one up to the other, which had the mode, have none any more, and the one behind them doesn't have it
 pub record IsFreedBehind (old new : Modes) (mode : Mode) (last to : ℕ) : Type 0 where

@@ -7,7 +7,7 @@ ghost use Rattle.range_core.specs.declared.Span.{Span};
 ghost use Rattle.range_core.specs.Changes.{mode_in};
 ghost use Rattle.range_core.specs.Ranges.{AreRuns, Covers, HeldConflicts, IsByteRange, IsFirstHit, IsRun, SplitsRun};
 ghost use Rattle.owner_runs.specs.Tests.{ends_from, meets};
-ghost use Rattle.owner_runs.specs.Trees.{AreRunsTouching, IsCutOut, IsFreedBefore, IsFreedBehind, IsGapFor, IsNextRun, IsPieceOf, IsSetOn, IsShortened};
+ghost use Rattle.owner_runs.specs.Trees.{AreRunsTouching, IsCutOut, IsFree, IsFreedBehind, IsGapFor, IsNext, IsNextRun, IsPieceOf, IsSetOn, IsShortened, IsWhole};
 
 use crate::cuts::EndingFrom;
 use crate::runs::Runs;
@@ -111,6 +111,13 @@ impl RunTree {
     {
         let run = self.runs.first_from(&EndingFrom(first))?;
         if run.1.first <= last { Some(run) } else { None }
+    }
+
+    /// The first run that ends at the byte or behind it.
+    fn next(&self, byte: u64) -> Option<(Mode, Span)>
+        ensures { IsNext self.now.items byte result }
+    {
+        self.runs.first_from(&EndingFrom(byte))
     }
 
     /// The least byte of the span whose mode conflicts with a lock of the mode `against` by another owner, and `None`
@@ -221,52 +228,94 @@ impl RunTree {
         }
     }
 
-    /// Sets the mode on just the bytes of the span, none of which has one, and uses up room for one run. It takes no memory.
-    pub(crate) fn lock(&mut self, span: Span, mode: Mode)
+    /// Sets the mode on just the bytes of the span, and uses up room for two runs at most. It takes no memory.
+    pub(crate) fn set(&mut self, span: Span, mode: Mode)
         requires span { IsByteRange span }
-        requires free { (byte : ℕ) → span.first ≤ byte → byte ≤ span.last → mode_in self.old.items byte ≡ None }
+        requires room { 2 ≤ self.old.room }
+        ensures modes { IsSetOn (mode_in self.old.items) (mode_in self.new.items) span (Some mode) }
+        ensures room { self.old.room ≤ self.new.room + 2 }
+    {
+        match self.next(span.first) {
+            Some((_, run)) if run.first <= span.last => {
+                self.unlock(span);
+                let next = self.next(span.first);
+                self.lock(span, mode, next);
+            }
+            next => self.lock(span, mode, next),
+        }
+    }
+
+    /// Sets the mode on just the bytes of the span, none of which has one, before the next run, and uses up room for one run at
+    /// most.
+    fn lock(&mut self, span: Span, mode: Mode, next: Option<(Mode, Span)>)
+        requires span { IsByteRange span }
+        requires free { IsFree (mode_in self.old.items) span }
+        requires next { IsNext self.old.items span.first next }
         requires room { 0 < self.old.room }
         ensures modes { IsSetOn (mode_in self.old.items) (mode_in self.new.items) span (Some mode) }
-        ensures room { self.new.room + 1 ≡ self.old.room }
+        ensures room { self.old.room ≤ self.new.room + 1 }
     {
-        let first = self.join_before(span.first, mode);
-        let last = self.join_behind(span.last, mode);
-        self.put((mode, Span { first, last }));
+        let last = self.join_behind(span, mode, next);
+        match self.run_before(span.first, mode) {
+            Some(run) => self.lengthen(run, last),
+            None => {
+                let first = span.first;
+                self.put((mode, Span { first, last }));
+            }
+        }
     }
 
-    /// Takes out the run of the mode that ends right before this byte, and tells where it began; this byte, if there is none.
-    fn join_before(&mut self, byte: u64, mode: Mode) -> u64
-        requires { mode_in self.old.items byte ≡ None }
-        ensures modes { IsFreedBefore (mode_in self.old.items) (mode_in self.new.items) mode result byte }
-        ensures room { self.new.room ≡ self.old.room }
+    /// The run of the mode that ends right before this byte, which has none.
+    fn run_before(&self, byte: u64, mode: Mode) -> Option<(Mode, Span)>
+        requires { mode_in self.now.items byte ≡ None }
+        ensures found { IfSome result (λ run. find (ends_from run.1.last) self.now.items ≡ Some run) }
+        ensures run { IfSome result (IsWhole (mode_in self.now.items)) }
+        ensures mode { IfSome result (λ run. run.0 ≡ mode) }
+        ensures ends { IfSome result (λ run. (run.1.first ≤ run.1.last) × (run.1.last + 1 ≡ byte)) }
+        ensures none { IfNone result ((other : ℕ) → other + 1 ≡ byte → mode_in self.now.items other ≢ Some mode) }
     {
         if byte == 0 {
-            return byte;
+            return None;
         }
         match self.meeting(byte - 1, byte - 1) {
-            Some((held, run)) if held == mode => {
-                self.take(byte - 1);
-                run.first
-            }
-            _ => byte,
+            Some((held, run)) if held == mode => Some((held, run)),
+            _ => None,
         }
     }
 
-    /// Takes out the run of the mode that begins right behind this byte, and tells where it ended; this byte, if there is none.
-    fn join_behind(&mut self, byte: u64, mode: Mode) -> u64
-        requires byte { byte ≤ OFFMAX }
-        requires free { mode_in self.old.items byte ≡ None }
-        ensures modes { IsFreedBehind (mode_in self.old.items) (mode_in self.new.items) mode byte result }
+    /// Takes out the next run, where it is of the mode and begins right behind the span, and tells where it ended; where the span
+    /// does, if it stays.
+    fn join_behind(&mut self, span: Span, mode: Mode, next: Option<(Mode, Span)>) -> u64
+        requires span { IsByteRange span }
+        requires free { IsFree (mode_in self.old.items) span }
+        requires next { IsNext self.old.items span.first next }
+        ensures modes { IsFreedBehind (mode_in self.old.items) (mode_in self.new.items) mode span.last result }
         ensures range { result ≤ OFFMAX }
         ensures room { self.new.room ≡ self.old.room }
     {
-        match self.meeting(byte + 1, byte + 1) {
-            Some((held, run)) if held == mode => {
-                self.take(byte + 1);
-                run.last
-            }
-            _ => byte,
+        let Some((held, run)) = next else {
+            return span.last;
+        };
+        if held == mode && run.first == span.last + 1 {
+            self.take(span.first);
+            return run.last;
         }
+        span.last
+    }
+
+    /// Lengthens the run up to this byte; the room stays.
+    fn lengthen(&mut self, run: (Mode, Span), last: u64)
+        requires found { find (ends_from run.1.last) self.old.items ≡ Some run }
+        requires last { (run.1.last ≤ last) × (last ≤ OFFMAX) }
+        requires free { (byte : ℕ) → run.1.last < byte → byte ≤ last → mode_in self.old.items byte ≡ None }
+        requires behind { mode_in self.old.items (last + 1) ≢ Some run.0 }
+        ensures modes { IsSetOn (mode_in self.old.items) (mode_in self.new.items) (record { first = run.1.first; last = last }) (Some run.0) }
+        ensures room { self.new.room ≡ self.old.room }
+    {
+        let (mode, held) = run;
+        let first = held.first;
+        self.runs
+            .replace(&EndingFrom(held.last), (mode, Span { first, last }));
     }
 
     /// Takes out the first run that ends at the byte or behind it; the room stays.

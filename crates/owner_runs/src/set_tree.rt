@@ -110,9 +110,9 @@ fn change(runs: &mut RunTree, span: Span, mode: Option<Mode>)
     ensures modes { SetsMode (mode_in runs.old.items) (mode_in runs.new.items) span mode }
     ensures room { runs.old.room ≤ runs.new.room + 2 }
 {
-    runs.unlock(span);
-    if let Some(wanted) = mode {
-        runs.lock(span, wanted);
+    match mode {
+        Some(wanted) => runs.set(span, wanted),
+        None => runs.unlock(span),
     }
 }
 
