@@ -1,7 +1,8 @@
 -- Facts on runs in order.
-use Rattle.interval_index.proofs.Common.{◌≡◌, ℕ, ◌<◌, ◌≤◌, ◌⊎◌, Bool, true, false, not, cond, ◌&&◌, ◌||◌, leb, Some, None, List, [], ◌∷◌, refl, ap, ◌∙◌, arith, find, AllByRecursion, nat_tests, Holder, Run, holder_of, IsBefore, AreOrdered, begins_after, is_from}
+use Rattle.interval_index.proofs.Common.{◌≡◌, ℕ, ◌<◌, ◌≤◌, ◌⊎◌, Bool, true, false, not, cond, ◌&&◌, ◌||◌, leb, Some, None, List, [], ◌∷◌, refl, sym, ap, ◌∙◌, arith, find, AllByRecursion, nat_tests, Holder, Run, holder_of, IsBefore, AreOrdered, begins_after, is_from}
 use Rattle.std.proofs.Common.{ltb, eqb}
-use Rattle.summary_tree.specs.Cuts.{IsCutBy, put_before, without_first}
+use Rattle.std.specs.List.{filter}
+use Rattle.summary_tree.specs.Cuts.{IsCutBy, put_before, with_first, without_first}
 use Rattle.interval_index.specs.Tests.{comes_behind, has_key, without, with_run}
 
 -- of keys (f, k, o), (a, l, b) and (c, m, d) in order
@@ -165,3 +166,45 @@ ordered_with_at run x xs false e r h k ih =
 pub ordered_with : (run : Run) (runs : List Run) → run.span.first ≤ run.span.last → AreOrdered runs → NoneHas run.span.first (holder_of run) runs → AreOrdered (with_run run runs)
 ordered_with run [] r h k = (r, tt, tt)
 ordered_with run (x ∷ xs) r h k = ordered_with_at run x xs (is_from run.span.first (holder_of run) x) refl r h k.0 (ordered_with run xs r h.2 k.1)
+
+replaced_at : (p : Run → Bool) (run x : Run) (xs : List Run) (b : Bool) → p x ≡ b → (p x ≡ true → AllByRecursion (λ y. p y ≡ true) xs) → (found : Run) → cond b (Some x) (find p xs) ≡ Some found
+    → (find p xs ≡ Some found → with_first p run xs ≡ put_before p run (without_first p xs))
+    → cond b (run ∷ xs) (x ∷ with_first p run xs) ≡ put_before p run (cond b xs (x ∷ without_first p xs))
+replaced_at p run x [] true e cut found is ih = refl
+replaced_at p run x (y ∷ ys) true e cut found is ih = rw (cut e).0 refl
+replaced_at p run x xs false e cut found is ih = rw e (ap (λ ys. x ∷ ys) (ih is))
+
+-- a run that is put in place of the first that passes stands where it would if that one were taken out first
+pub replaced : (p : Run → Bool) (run : Run) (runs : List Run) → IsCutBy p runs → (found : Run) → find p runs ≡ Some found → with_first p run runs ≡ put_before p run (without_first p runs)
+replaced p run [] cut found is = absurd (cc)
+replaced p run (x ∷ xs) cut found is = replaced_at p run x xs (p x) refl cut.0 found is (λ more. replaced p run xs cut.1 found more)
+
+-- so one in place of the run of its key stands where it would among those without that one
+pub in_place : (run : Run) (runs : List Run) (held : Run) → AreOrdered runs → find (is_from run.span.first (holder_of run)) runs ≡ Some held → has_key run.span.first (holder_of run) held ≡ true
+    → with_first (is_from run.span.first (holder_of run)) run runs ≡ with_run run (without run.span.first (holder_of run) runs)
+in_place run runs held ordered found key =
+    let there = it_is_there run.span.first (holder_of run) runs held ordered found key in
+    replaced (is_from run.span.first (holder_of run)) run runs (cut_at run.span.first (holder_of run) runs ordered) held found
+    ∙ ap (put_before (is_from run.span.first (holder_of run)) run) (sym there.left_out)
+
+all_left : (P : Run → Type 0) (p : Run → Bool) (xs : List Run) → AllByRecursion P xs → AllByRecursion P (filter p xs)
+all_left P p [] h = tt
+all_left P p (x ∷ xs) h = elim (p x) as (λ b. AllByRecursion P (cond b (x ∷ filter p xs) (filter p xs))) [ true ↦ (h.0, all_left P p xs h.1) | false ↦ all_left P p xs h.1 ]
+
+ordered_left : (p : Run → Bool) (xs : List Run) → AreOrdered xs → AreOrdered (filter p xs)
+ordered_left p [] h = tt
+ordered_left p (x ∷ xs) h = elim (p x) as (λ b. AreOrdered (cond b (x ∷ filter p xs) (filter p xs))) [ true ↦ (h.0, all_left (IsBefore x) p xs h.1, ordered_left p xs h.2) | false ↦ ordered_left p xs h.2 ]
+
+-- and there they are in order
+pub ordered_in_place : (run : Run) (runs : List Run) → run.span.first ≤ run.span.last → AreOrdered runs → AreOrdered (with_run run (without run.span.first (holder_of run) runs))
+ordered_in_place run runs some ordered =
+    ordered_with run (without run.span.first (holder_of run) runs) some (ordered_left (λ other. not (has_key run.span.first (holder_of run) other)) runs ordered) (none_has run.span.first (holder_of run) runs)
+
+none_has_here : (f : ℕ) (h : Holder) (x : Run) (xs : List Run) (b : Bool) → has_key f h x ≡ b → cond b (Some x) (find (has_key f h) xs) ≡ None → (find (has_key f h) xs ≡ None → NoneHas f h xs) → NoneHas f h (x ∷ xs)
+none_has_here f h x xs true e n ih = absurd (cc)
+none_has_here f h x xs false e n ih = (e, ih n)
+
+-- where none is found no run has the key
+pub none_if_not_found : (f : ℕ) (h : Holder) (runs : List Run) → find (has_key f h) runs ≡ None → NoneHas f h runs
+none_if_not_found f h [] n = tt
+none_if_not_found f h (x ∷ xs) n = none_has_here f h x xs (has_key f h x) refl n (none_if_not_found f h xs)

@@ -1,10 +1,10 @@
 //! The runs in order.
-ghost use Rattle.std.specs.Prelude.{◌≡◌, ◌+◌, ◌<◌, ◌≤◌, ◌↔◌, ◌&&◌, IsTrue, IsOk, OnOk, OnErr, Some, None, IfSome, IfNone, Any, cond, [], length};
+ghost use Rattle.std.specs.Prelude.{◌≡◌, ◌+◌, ◌<◌, ◌≤◌, ◌↔◌, ◌&&◌, true, IsTrue, IsFalse, IsOk, OnOk, OnErr, Some, None, IfSome, IfNone, Any, cond, [], length};
 ghost use Rattle.std.specs.List.{find};
 ghost use Rattle.interval_index.specs.Holders.{holder_of, is_same_holder};
 ghost use Rattle.interval_index.specs.Runs.{Blocks};
 ghost use Rattle.interval_index.specs.Standing.{AreRunsOf, HolderConflict, HolderModes, IsFirstInTheWay, IsRunThere};
-ghost use Rattle.interval_index.specs.Tests.{beginning_by, blocks, has_key, is_after, without, with_run};
+ghost use Rattle.interval_index.specs.Tests.{beginning_by, blocks, has_key, is_after, is_from, without, with_run};
 
 use crate::keys::{After, Beyond, Key};
 use crate::queries::Reaching;
@@ -144,25 +144,51 @@ impl RunIndex {
         self.runs.reserve(count)
     }
 
+    /// Whether a run has this first byte and this owner.
+    fn has(&self, first: u64, holder: Holder) -> bool
+        ensures yes { IsTrue result → (run : Run) × (find (is_from first holder) self.now.runs ≡ Some run) × (has_key first holder run ≡ true) }
+        ensures no { IsFalse result → find (has_key first holder) self.now.runs ≡ None }
+    {
+        let Some(run) = self.runs.first_from(&Key { first, holder }) else {
+            return false;
+        };
+        run.has_key(first, holder)
+    }
+
     /// Takes out the run with this first byte and this owner; the room stays. It takes no memory.
     pub fn take(&mut self, first: u64, holder: Holder) -> Option<Run>
         ensures run { result ≡ find (has_key first holder) self.old.runs }
         ensures runs { self.new.runs ≡ without first holder self.old.runs }
         ensures room { self.new.room ≡ self.old.room }
     {
-        let key = Key { first, holder };
-        let Some(run) = self.runs.first_from(&key) else {
-            return None;
-        };
-        if !run.has_key(first, holder) {
+        if !self.has(first, holder) {
             return None;
         }
-        self.runs.take(&key)
+        self.runs.take(&Key { first, holder })
     }
 
-    /// Puts in a run, in place of one with its first byte and its owner, and uses up room for one. It takes no memory.
+    /// Puts in a run, in place of one with its first byte and its owner, and uses up room for one at most. It takes no memory.
     pub fn put(&mut self, run: Run)
         requires range { run.span.first ≤ run.span.last }
+        requires room { 0 < self.old.room }
+        ensures runs { self.new.runs ≡ with_run run (without run.span.first (holder_of run) self.old.runs) }
+        ensures room { self.old.room ≤ self.new.room + 1 }
+    {
+        let key = Key {
+            first: run.span.first,
+            holder: run.holder(),
+        };
+        if self.has(key.first, key.holder) {
+            self.runs.replace(&key, run);
+        } else {
+            self.add(run);
+        }
+    }
+
+    /// Puts in a run where none has its first byte and its owner, and uses up room for one. It takes no memory.
+    pub fn add(&mut self, run: Run)
+        requires range { run.span.first ≤ run.span.last }
+        requires new { find (has_key run.span.first (holder_of run)) self.old.runs ≡ None }
         requires room { 0 < self.old.room }
         ensures runs { self.new.runs ≡ with_run run (without run.span.first (holder_of run) self.old.runs) }
         ensures room { self.new.room + 1 ≡ self.old.room }
@@ -171,7 +197,6 @@ impl RunIndex {
             first: run.span.first,
             holder: run.holder(),
         };
-        self.take(key.first, key.holder);
         self.runs.put(&key, run);
     }
 }

@@ -1,12 +1,14 @@
 -- What takes and puts leave of the runs that an index keeps: for `take_runs`, `put_runs` and others.
-use Rattle.lock_book.proofs.Common.{◌≡◌, ◌==◌, ℕ, ◌++◌, inl, inr, Bool, true, false, not, ◌&&◌, ◌||◌, cond, List, [], ◌∷◌, All, refl, sym, ap, ◌∙◌, subst, arith, list_any, cases_Bool, not-true, nat_tests, All-cons, All-head, All-tail, All-weaker, Mode, Span, IsRun, Holder, Run, holder_of, HolderModes, AreRunsWhere, is_listed}
-use Rattle.std.proofs.lemmas.Bool.{and_from, and_parts, or_left, or_right, or_cases, not_from_false}
+use Rattle.lock_book.proofs.Common.{◌≡◌, ◌==◌, ℕ, ◌++◌, inl, inr, Bool, true, false, not, ◌&&◌, ◌||◌, cond, Option, Some, None, List, [], ◌∷◌, All, refl, sym, ap, ◌∙◌, subst, arith, list_any, cases_Bool, not-true, nat_tests, All-cons, All-head, All-tail, All-weaker, Mode, Span, IsRun, Holder, Run, holder_of, HolderModes, AreRunsWhere, is_listed}
+use Rattle.std.specs.List.{find}
+use Rattle.std.proofs.lemmas.Bool.{and_from, and_parts, and_right, or_left, or_right, or_cases, not_from_false}
 use Rattle.std.proofs.lemmas.List.Elements.{All-filter, filter_passes}
 use Rattle.std.proofs.lemmas.List.Folds.{list_any-append}
 use Rattle.std.proofs.lemmas.Map.Views.{any-filter_same}
 use Rattle.summary_tree.specs.Cuts.{put_before}
+use Rattle.interval_index.specs.Holders.{is_same_holder}
 use Rattle.interval_index.specs.Tests.{has_key, is_from, without, with_run}
-use Rattle.lock_book.specs.Indexing.{IsRunOf}
+use Rattle.lock_book.specs.Indexing.{IsRunOf, is_others, without_left}
 
 -- of keys (f, k, o), (a, l, b) and (c, m, d)
 abbrev is_key : ℕ → ℕ → ℕ → ℕ → ℕ → ℕ → Bool
@@ -121,7 +123,7 @@ and-true : (a : Bool) → (a && true) ≡ a
 and-true true = refl
 and-true false = refl
 
-or-false : (a : Bool) → (a || false) ≡ a
+pub or-false : (a : Bool) → (a || false) ≡ a
 or-false true = refl
 or-false false = refl
 
@@ -129,6 +131,12 @@ and_not_or : (a b c : Bool) → (a && not (b || c)) ≡ ((a && not b) && not c)
 and_not_or true true c = refl
 and_not_or true false c = refl
 and_not_or false b c = refl
+
+neither : (a b : Bool) → not (a || b) ≡ (not b && not a)
+neither true true = refl
+neither true false = refl
+neither false true = refl
+neither false false = refl
 
 or_or : (a b c : Bool) → (a || (b || c)) ≡ ((a || b) || c)
 or_or true b c = refl
@@ -191,3 +199,41 @@ module _ (holder : Holder) where
     puts_step new run made is its are =
         subst (λ (l : List Run). AreRunsWhere modes (λ other. passes other || is_listed holder (xs ++ x ∷ []) other) l) (sym is)
         (puts_more run made (subst (λ (r : Run). IsRunOf modes r) (sym made) its) are)
+
+  -- a first one goes beside others
+  pub takes_first : (modes : HolderModes) (x : Mode × Span) (rest : List (Mode × Span)) (runs : List Run) → AreRunsWhere modes (λ run. not (is_listed holder rest run)) runs
+      → AreRunsWhere modes (λ run. not (is_listed holder (x ∷ rest) run)) (without x.1.first holder runs)
+  takes_first modes x rest runs are =
+      AreRunsWhere-agrees modes (λ run. not (is_listed holder rest run) && not (has_key x.1.first holder run)) (λ run. not (is_listed holder (x ∷ rest) run)) (without x.1.first holder runs)
+      (λ run is. neither (has_key x.1.first holder run) (is_listed holder rest run))
+      (AreRunsWhere-takes modes (λ run. not (is_listed holder rest run)) x.1.first holder runs are)
+
+  -- and comes beside others
+  pub puts_first : (modes : HolderModes) (passes : Run → Bool) (x : Mode × Span) (rest : List (Mode × Span)) (runs : List Run)
+      → AreRunsWhere modes (λ run. (passes run || has_key x.1.first holder run) || is_listed holder rest run) runs → AreRunsWhere modes (λ run. passes run || is_listed holder (x ∷ rest) run) runs
+  puts_first modes passes x rest runs are =
+      AreRunsWhere-agrees modes (λ run. (passes run || has_key x.1.first holder run) || is_listed holder rest run) (λ run. passes run || is_listed holder (x ∷ rest) run) runs
+      (λ run is. or_or (passes run) (has_key x.1.first holder run) (is_listed holder rest run)) are
+
+out_twice : (first : ℕ) (holder : Holder) (x : Run) (xs : List Run) (b : Bool) → has_key first holder x ≡ b → without first holder (without first holder xs) ≡ without first holder xs
+    → without first holder (cond (not b) (x ∷ without first holder xs) (without first holder xs)) ≡ cond (not b) (x ∷ without first holder xs) (without first holder xs)
+out_twice first holder x xs true e rest = rest
+out_twice first holder x xs false e rest = rw e (ap (λ ys. x ∷ ys) rest)
+
+-- what was taken out isn't there a second time
+pub without_twice : (first : ℕ) (holder : Holder) (runs : List Run) → without first holder (without first holder runs) ≡ without first holder runs
+without_twice first holder [] = refl
+without_twice first holder (x ∷ xs) = out_twice first holder x xs (has_key first holder x) refl (without_twice first holder xs)
+
+-- so one that is left counts as taken out where its place is taken
+pub left_twice : (holder : Holder) (left : Option ℕ) (runs : List Run) → without_left holder left (without_left holder left runs) ≡ without_left holder left runs
+left_twice holder None runs = refl
+left_twice holder (Some byte) runs = without_twice byte holder runs
+
+-- where all runs are others', none of the owner's is found
+pub none_of_owner : (first : ℕ) (holder : Holder) (runs : List Run) → All (λ run. is_others holder run ≡ true) runs → find (has_key first holder) runs ≡ None
+none_of_owner first holder [] others = refl
+none_of_owner first holder (x ∷ xs) others =
+    let apart = not-true _ (All-head (λ run. is_others holder run ≡ true) x xs others) in
+    ap (λ b. cond b (Some x) (find (has_key first holder) xs)) (and_right (first == x.span.first) (is_same_holder holder (holder_of x)) apart)
+    ∙ none_of_owner first holder xs (All-tail (λ run. is_others holder run ≡ true) x xs others)

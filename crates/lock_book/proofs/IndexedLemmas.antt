@@ -1,5 +1,5 @@
 -- What an index of all owners' runs tells of the locks of a file, and what stays of it when these change: for `Book::set`, `Book::blocked` and others.
-use Rattle.lock_book.proofs.Common.{◌≡◌, ◌≢◌, ℕ, ◌⊎◌, inl, inr, Bool, true, false, not, ◌&&◌, ◌||◌, ◌==◌, Option, Some, None, List, [], ◌∷◌, ◌++◌, All, Any, get_or, length, map, refl, sym, ap, ◌∙◌, subst, arith, Box, Global, Result, Ok, Err, MatchOption, Bor, list_any, lookup, cases_Bool, cond-false, eq-eqb, eqb-true, not-true, nat_tests, All-nil, All-weaker, Mode, Span, OwnerRuns, Modes, AreRuns, Covers, HeldConflicts, IsRun, modes_of, OwnersStandForRuns, Holder, Run, holder_of, HolderConflict, HolderModes, Owner, Process, Description, is_same_owner, IsBefore, AreFound, modes_in_list, Blocks, ByteModes, AreRunsWhere, as_holder, holder_modes, is_listed, is_outside, modes_among, touches, Yields, TakesFirst, deref_pair}
+use Rattle.lock_book.proofs.Common.{◌≡◌, ◌≢◌, ◌≤◌, ℕ, ◌⊎◌, inl, inr, Bool, true, false, not, ◌&&◌, ◌||◌, ◌==◌, Option, Some, None, List, [], ◌∷◌, ◌++◌, All, Any, get_or, length, map, refl, sym, ap, ◌∙◌, subst, arith, Box, Global, Result, Ok, Err, MatchOption, Bor, list_any, lookup, cases_Bool, cond-false, eq-eqb, eqb-true, not-true, nat_tests, All-cons, All-nil, All-weaker, Mode, Span, OwnerRuns, Modes, AreRuns, Covers, HeldConflicts, IsRun, modes_of, OwnersStandForRuns, Holder, Run, holder_of, HolderConflict, HolderModes, Owner, Process, Description, is_same_owner, IsBefore, AreFound, modes_in_list, Blocks, ByteModes, AreRunsWhere, as_holder, holder_modes, is_listed, is_outside, modes_among, touches, Yields, TakesFirst, deref_pair}
 use Rattle.std.specs.Prelude.{IfNone, IfOk, IfSome, IsSomeAnd}
 use Rattle.std.specs.Result.{result_ok}
 use Rattle.std.proofs.lemmas.Bool.{and_from, and_left, and_parts, not_from_false, or_left, or_right, false_from_ne_true}
@@ -7,15 +7,15 @@ use Rattle.std.proofs.lemmas.List.Folds.{Any-from_list_any, list_any-append, lis
 use Rattle.interval_index.specs.Contents.{RunContents}
 use Rattle.interval_index.specs.Holders.{is_same_holder, IsBeforeHolder}
 use Rattle.interval_index.specs.Standing.{AreRunsOf, BlocksOn, IsFirstInTheWay, Tells}
-use Rattle.interval_index.specs.Tests.{has_key}
+use Rattle.interval_index.specs.Tests.{has_key, with_run, without}
 use Rattle.lock_book.specs.Conflicts.{ByteConflict, IsFirstBlocked}
 use Rattle.lock_book.specs.declared.book.index.OwnersIndex.{OwnersIndex}
-use Rattle.lock_book.specs.Indexing.{AreIndexed, IsRunOf, is_others}
+use Rattle.lock_book.specs.Indexing.{AreIndexed, HasJust, IsRunOf, is_others, run_by, without_left}
 use Rattle.lock_book.proofs.BlockLemmas.{Item}
 use Rattle.lock_book.proofs.LoopLemmas.{found_in_loop, next_in_loop}
 use Rattle.lock_book.proofs.OwnerLemmas.{same_owner}
-use Rattle.lock_book.proofs.IndexLemmas.{AreRunsWhere-moves, AreRunsWhere-agrees}
-use Rattle.lock_book.proofs.LargestLemmas.{IsRun-apart, IsRun-same, list_run, same_run}
+use Rattle.lock_book.proofs.IndexLemmas.{AreRunsWhere-moves, AreRunsWhere-agrees, AreRunsWhere-puts, or-false}
+use Rattle.lock_book.proofs.LargestLemmas.{IsRun-apart, IsRun-same, list_run, only_begins, only_run, same_run}
 use Rattle.lock_book.proofs.ListLemmas.{All-at_Any}
 
 not_same : (a b : Bool) → not a ≡ not b → a ≡ b
@@ -381,6 +381,28 @@ module _ (modes : ByteModes) (owner : Owner) (list : OwnerRuns) (same : (byte : 
         AreRunsWhere-agrees (holder_modes modes) (λ run. is_outside (as_holder owner) span run || is_listed (as_holder owner) listed run) (λ run. true) runs
         (others_or_listed modes owner listed each_own (touches span) touch touch_every) are
 
+touches-self : (span : Span) → span.first ≤ span.last → touches span span ≡ true
+touches-self span some = grind (arith, nat_tests)
+
+-- with the only run of an owner whose others are kept all runs are
+pub only_put : (modes : ByteModes) (owner : Owner) (mode : Mode) (span : Span) (runs new : List Run) (run : Run) → span.first ≤ span.last → HasJust (modes owner) mode span
+    → run ≡ run_by owner mode span → new ≡ with_run run (without run.span.first (holder_of run) runs)
+    → AreRunsWhere (holder_modes modes) (is_outside (as_holder owner) span) runs → AreRunsWhere (holder_modes modes) (λ other. true) new
+only_put modes owner mode span runs new run some just made is kept =
+    let holder = as_holder owner in
+    let outside = is_outside holder span in
+    let only : Mode × Span = (mode, span) in
+    let its = only_run (modes owner) mode span some just in
+    let put = AreRunsWhere-puts (holder_modes modes) outside (run_by owner mode span) runs (subst (λ (m : Modes). IsRun m span.first mode span) (sym (holder_at modes owner)) its) kept in
+    subst (λ (l : List Run). AreRunsWhere (holder_modes modes) (λ other. true) l)
+    (sym (is ∙ ap (λ (r : Run). with_run r (without r.span.first (holder_of r) runs)) made))
+    (AreRunsWhere-agrees (holder_modes modes) (λ other. outside other || has_key span.first holder other) (λ other. true) (with_run (run_by owner mode span) (without span.first holder runs))
+    (λ other is_other.
+    others_or_listed modes owner (only ∷ []) (All-cons (λ r. IsRun (modes owner) r.1.first r.0 r.1) only [] its (All-nil (λ (r : Mode × Span). IsRun (modes owner) r.1.first r.0 r.1)))
+    (touches span) (All-cons (λ r. touches span r.1 ≡ true) only [] (touches-self span some) (All-nil (λ (r : Mode × Span). touches span r.1 ≡ true)))
+    (λ m r is_run touch. or-false (span.first == r.first) ∙ eq-eqb span.first r.first (only_begins (modes owner) mode span some just m r is_run)) other is_other
+    ∙ ap (λ b. outside other || b) (or-false (has_key span.first holder other))) put)
+
 -- a run of a list is listed among all
 pub each_listed : (modes : Modes) (runs : List (Mode × Span)) → AreRuns modes runs → (mode : Mode) (run : Span) → IsRun modes run.first mode run
     → list_any (λ listed. listed.1.first == run.first) runs ≡ true
@@ -432,6 +454,12 @@ pub kept_new : (modes : HolderModes) (passes : Run → Bool) (left block : Box R
 kept_new modes passes left block are is =
     let same : left ≡ block = cc in subst (λ (b : Box RunContents Global). AreRunsWhere modes passes b.value.runs) same are
 
+-- also but for one that is left
+pub kept_without : (modes : HolderModes) (passes : Run → Bool) (holder : Holder) (at : Option ℕ) (left block : Box RunContents Global)
+    → AreRunsWhere modes passes (without_left holder at left.value.runs) → Some left ≡ Some block → AreRunsWhere modes passes (without_left holder at block.value.runs)
+kept_without modes passes holder at left block are is =
+    let same : left ≡ block = cc in subst (λ (b : Box RunContents Global). AreRunsWhere modes passes (without_left holder at b.value.runs)) same are
+
 -- what is kept of it in its box is kept of it where it is lent
 pub kept_lent : (modes : HolderModes) (passes : Run → Bool) (block : Box RunContents Global) (lent : RunContents) → lent ≡ block.value
     → AreRunsWhere modes passes block.value.runs → AreRunsWhere modes passes lent.runs
@@ -455,10 +483,6 @@ module _ (lists : List (Owner × OwnerRuns)) where
     each = All-nil (λ run. IsRunOf (holder_modes (modes_among lists)) run × (false ≡ true));
     every = λ run is h. absurd (let e : false ≡ true = h in cc);
   })
-
-  or-false : (b : Bool) → (b || false) ≡ b
-  or-false true = refl
-  or-false false = refl
 
   -- the runs of one more owner
   pub more_indexed : (items : List Item) (x : Item) (listed : List (Mode × Span)) (runs : List Run)

@@ -1,6 +1,7 @@
 -- Largest ranges of one mode, by bytes: for the index of all owners.
-use Rattle.lock_book.proofs.Common.{◌≡◌, ◌≢◌, ℕ, ◌+◌, ◌-◌, ◌<◌, ◌≤◌, ◌⊎◌, inl, inr, zero, suc, false, Option, Some, None, List, [], ◌∷◌, refl, sym, ap, ◌∙◌, subst, arith, cases_lt, cond-false, nat_tests, Mode, Read, Write, Span, OwnerRuns, Modes, Covers, IsRun, is_covered, modes_of, OwnersStandForRuns, touches}
+use Rattle.lock_book.proofs.Common.{◌≡◌, ◌≢◌, ℕ, ◌+◌, ◌-◌, ◌<◌, ◌≤◌, ◌⊎◌, inl, inr, zero, suc, true, false, cond, cases_Bool, Option, Some, None, List, [], ◌∷◌, refl, sym, ap, ◌∙◌, subst, arith, cases_lt, cond-false, nat_tests, Mode, Read, Write, Span, OwnerRuns, Modes, Covers, IsRun, is_covered, modes_of, OwnersStandForRuns, touches}
 use Rattle.range_core.specs.Ranges.{IsConstant}
+use Rattle.lock_book.specs.Indexing.{HasJust}
 use Rattle.range_core.specs.Changes.{mode_in}
 
 -- modes that are the same have the same largest ranges
@@ -147,3 +148,39 @@ list_run stand list byte mode at =
     let runs = stand list in
     let end = ends runs.0 in
     run_round (modes_of list) mode end.0 (λ b far. runs.1 b ∙ end.1 b far) byte at
+
+covers_by : (span : Span) (byte : ℕ) → span.first ≤ byte → byte ≤ span.last → is_covered span byte ≡ true
+covers_by span byte from upto = grind (arith, nat_tests)
+
+-- of modes that are one on a range alone
+module _ (modes : Modes) (mode : Mode) (span : Span) (some : span.first ≤ span.last) (just : HasJust modes mode span) where
+  on_it : (byte : ℕ) → span.first ≤ byte → byte ≤ span.last → modes byte ≡ Some mode
+  on_it byte from upto = just byte ∙ ap (λ b. cond b (Some mode) None) (covers_by span byte from upto)
+
+  only_there : (byte : ℕ) (other : Mode) → modes byte ≡ Some other → Covers span byte
+  only_there byte other has = elim (cases_Bool (is_covered span byte)) [
+    | inl there ↦ (grind (arith, nat_tests, there), grind (arith, nat_tests, there))
+    | inr apart ↦ absurd (let no : None ≡ Some other = sym (just byte ∙ ap (λ b. cond b (Some mode) None) apart) ∙ has in cc)
+  ]
+
+  -- it is the only largest range
+  pub only_run : IsRun modes span.first mode span
+  only_run = record {
+    covered = (omega arith, some);
+    constant = λ byte within. on_it byte within.0 within.1;
+    largest = λ other covers constant.
+        let from = covers.0 in let upto = covers.1 in
+        let low = only_there other.first mode (constant other.first (omega arith, omega arith)) in
+        let high = only_there other.last mode (constant other.last (omega arith, omega arith)) in
+        (low.0, high.1);
+  }
+
+  pub only_begins : (other : Mode) (run : Span) → IsRun modes run.first other run → span.first ≡ run.first
+  only_begins other run is =
+      let covers = only_there run.first other (is.constant run.first is.covered) in
+      let both : Some mode ≡ Some other = sym (on_it run.first covers.0 covers.1) ∙ is.constant run.first is.covered in
+      let same : mode ≡ other = cc in
+      let wide = is.largest span covers (λ byte within. on_it byte within.0 within.1 ∙ ap Some same) in
+      let from = covers.0 in
+      let low = wide.0 in
+      omega arith

@@ -1,5 +1,5 @@
 -- What an index keeps of the byte locks on one file (the words are this project's choice).
-use Rattle.std.specs.Prelude.{◌≡◌, ◌+◌, ◌==◌, ◌&&◌, Bool, true, not, if◌then◌else◌, Some, None, List, All}
+use Rattle.std.specs.Prelude.{ℕ, ◌≡◌, ◌+◌, ◌==◌, ◌&&◌, Bool, true, not, if◌then◌else◌, Option, Some, None, List, All}
 use Rattle.std.specs.Bool.{nat_le}
 use Rattle.std.specs.List.{list_any}
 use Rattle.std.specs.Map.{lookup}
@@ -9,13 +9,14 @@ use Rattle.std.proofs.Props.{props}
 use Rattle.range_core.specs.declared.Span.{Span}
 use Rattle.owner_runs.specs.declared.owner_runs.OwnerRuns.{OwnerRuns}
 use Rattle.range_core.specs.declared.Mode.{Mode}
-use Rattle.range_core.specs.Ranges.{IsRun}
+use Rattle.range_core.specs.Changes.{is_covered}
+use Rattle.range_core.specs.Ranges.{IsRun, Modes}
 use Rattle.interval_index.specs.declared.Holder.{Holder}
 use Rattle.interval_index.specs.declared.Run.{Run}
 use Rattle.interval_index.specs.Contents.{RunContents}
 use Rattle.interval_index.specs.Holders.{holder_of, is_same_holder}
 use Rattle.interval_index.specs.Standing.{HolderModes}
-use Rattle.interval_index.specs.Tests.{has_key}
+use Rattle.interval_index.specs.Tests.{has_key, without}
 use Rattle.lock_book.specs.declared.Owner.{Owner}
 use Rattle.lock_book.specs.declared.Owner.TheVariants.{Process, Description}
 use Rattle.lock_book.specs.declared.book.index.OwnersIndex.{OwnersIndex}
@@ -71,13 +72,32 @@ IsKeptWhere index modes passes =
 abbrev pub IsKeptAs : OwnersIndex → ByteModes → Type 0
 IsKeptAs index modes = IsKeptWhere index modes (λ run. true)
 
--- it keeps them but for those of the owner that touch the range
-abbrev pub IsKeptOutside : OwnersIndex → ByteModes → Owner → Span → Type 0
-IsKeptOutside index modes owner span = IsKeptWhere index modes (is_outside (as_holder owner) span)
+-- the run of the owner that has this mode and this range
+abbrev pub run_by : Owner → Mode → Span → Run
+run_by owner mode span = record { span = span; number = (as_holder owner).number; class = (as_holder owner).class; mode = mode }
+
+-- the runs without the owner's that begins at the byte, if one is told
+abbrev pub without_left : Holder → Option ℕ → List Run → List Run
+without_left holder None runs = runs
+without_left holder (Some byte) runs = without byte holder runs
+
+-- it keeps them but for those of the owner that touch the range, of which one that begins at the byte may be left
+abbrev pub IsKeptOutside : OwnersIndex → ByteModes → Owner → Span → Option ℕ → Type 0
+IsKeptOutside index modes owner span left =
+    (block : Box RunContents Global) → index.runs ≡ Some block
+    → AreRunsWhere (holder_modes modes) (is_outside (as_holder owner) span) (without_left (as_holder owner) left block.value.runs)
 
 -- it keeps those of the other owners
 abbrev pub IsKeptWithout : OwnersIndex → ByteModes → Owner → Type 0
 IsKeptWithout index modes owner = IsKeptWhere index modes (is_others (as_holder owner))
+
+-- it keeps none of the owner's
+abbrev pub HasNoneOf : OwnersIndex → Owner → Type 0
+HasNoneOf index owner = (block : Box RunContents Global) → index.runs ≡ Some block → All (λ run. is_others (as_holder owner) run ≡ true) block.value.runs
+
+-- each byte of the range has the mode, and no other byte has one
+abbrev pub HasJust : Modes → Mode → Span → Type 0
+HasJust modes mode span = (byte : ℕ) → modes byte ≡ (if is_covered span byte then Some mode else None)
 
 -- it keeps the runs of all lists
 abbrev pub AreIndexed : OwnersIndex → List (Owner × OwnerRuns) → Type 0

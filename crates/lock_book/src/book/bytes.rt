@@ -29,13 +29,13 @@ impl Book {
                 if has_already(list, span, mode) {
                     return Ok(());
                 }
-                self.index.take_out(owner, list, span);
+                let left = self.index.take_out(owner, list, span);
                 if let Err(refused) = list.set(span, mode) {
                     // The list is as it was: the runs that were taken out go in again.
-                    self.index.put_in(owner, list, span);
+                    self.index.put_in(owner, list, span, left);
                     return Err(refused);
                 }
-                self.index.put_in(owner, list, span);
+                self.index.put_in(owner, list, span, left);
                 if is_idle(list) {
                     self.owners.remove(owner);
                 }
@@ -43,14 +43,13 @@ impl Book {
             }
             None => {
                 // Without a list there is nothing to unlock.
-                if mode.is_none() {
+                let Some(wanted) = mode else {
                     return Ok(());
-                }
+                };
                 let mut added = OwnerRuns::new(self.alloc);
                 added.set(span, mode)?;
                 self.owners.add(self.alloc, owner, added)?;
-                let list = self.owners.get(owner).unwrap();
-                self.index.put_in(owner, list, span);
+                self.index.put_only(owner, wanted, span);
                 Ok(())
             }
         }
@@ -101,9 +100,9 @@ impl Book {
         ensures room { room_in self.old owner ≤ room_in self.new owner + 1 }
     {
         let list = self.owners.get_mut(owner).unwrap();
-        self.index.take_out(owner, list, span);
+        let left = self.index.take_out(owner, list, span);
         list.set_reserved(span, mode);
-        self.index.put_in(owner, list, span);
+        self.index.put_in(owner, list, span, left);
         if is_idle(list) {
             self.owners.remove(owner);
         }

@@ -5,9 +5,10 @@ ghost use Rattle.range_core.specs.Ranges.{IsByteRange, IsRun};
 ghost use Rattle.owner_runs.specs.Lists.{modes_of};
 ghost use Rattle.interval_index.specs.declared.Run.{Run};
 ghost use Rattle.interval_index.specs.Standing.{AreRunsOf, HolderModes};
+ghost use Rattle.interval_index.specs.Tests.{with_run, without};
 ghost use Rattle.lock_book.specs.declared.Owner.{Owner};
 ghost use Rattle.lock_book.specs.Conflicts.{ByteModes};
-ghost use Rattle.lock_book.specs.Indexing.{AreIndexed, AreRunsWhere, IsKeptAs, IsKeptOutside, IsKeptWithout, as_holder, holder_modes, is_listed, modes_among};
+ghost use Rattle.lock_book.specs.Indexing.{AreIndexed, AreRunsWhere, HasJust, HasNoneOf, IsKeptAs, IsKeptOutside, IsKeptWithout, as_holder, holder_modes, is_listed, modes_among, run_by, without_left};
 
 use super::lists::OwnerLists;
 use crate::Owner;
@@ -84,22 +85,28 @@ impl OwnersIndex {
 
     /// Whether there are so many owners, or runs in the index, that there is to be one.
     fn is_wanted(&self, owners: &OwnerLists) -> bool {
-        owners.has_more_than(FEW_OWNERS)
-            || self
-                .runs
-                .as_deref()
-                .is_some_and(|index| index.len() > FEW_RUNS)
+        self.runs
+            .as_deref()
+            .is_some_and(|index| index.len() > FEW_RUNS)
+            || owners.has_more_than(FEW_OWNERS)
     }
 
-    /// Takes out the runs of the owner that share a byte with the span or lie right beside it. It takes no memory.
-    pub fn take_out(&mut self, owner: Owner, list: &OwnerRuns, span: Span)
+    /// Takes out the runs of the owner that share a byte with the span or lie right beside it, but for the first, where another
+    /// may be put in its place ([`OwnersIndex::put_in`]): its first byte is told. It takes no memory.
+    pub fn take_out(&mut self, owner: Owner, list: &OwnerRuns, span: Span) -> Option<u64>
         requires { IsByteRange span }
         ensures { (modes : ByteModes) → ((byte : ℕ) → modes owner byte ≡ modes_of list.now byte) → IsKeptAs self.old modes
-            → IsKeptOutside self.new modes owner span }
+            → IsKeptOutside self.new modes owner span result }
     {
-        if let Some(index) = &mut self.runs {
-            take_runs(index.as_mut(), owner, list.touching(span));
-        }
+        let Some(index) = &mut self.runs else {
+            return None;
+        };
+        let mut runs = list.touching(span);
+        let Some((_, first)) = runs.next() else {
+            return None;
+        };
+        take_runs(index.as_mut(), owner, runs);
+        Some(first.first)
     }
 
     /// Takes out all runs of the owner. It takes no memory.
@@ -113,18 +120,55 @@ impl OwnersIndex {
     }
 
     /// Puts in the runs of the owner that share a byte with the span or lie right beside it, in room that is held; without
-    /// that room there is no index any more. It takes no memory.
-    pub fn put_in(&mut self, owner: Owner, list: &OwnerRuns, span: Span)
+    /// that room there is no index any more. One that was left there goes. It takes no memory.
+    pub fn put_in(&mut self, owner: Owner, list: &OwnerRuns, span: Span, left: Option<u64>)
         requires { IsByteRange span }
-        ensures { (modes : ByteModes) → ((byte : ℕ) → modes owner byte ≡ modes_of list.now byte) → IsKeptOutside self.old modes owner span
+        ensures { (modes : ByteModes) → ((byte : ℕ) → modes owner byte ≡ modes_of list.now byte) → IsKeptOutside self.old modes owner span left
             → IsKeptAs self.new modes }
     {
         let Some(index) = &mut self.runs else {
             return;
         };
-        if !put_runs(index.as_mut(), owner, list.touching(span)) {
+        let index = index.as_mut();
+        let mut runs = list.touching(span);
+        let Some((mode, first)) = runs.next() else {
+            take_left(index, owner, left, None);
+            return;
+        };
+        take_left(index, owner, left, Some(first.first));
+        if !put_run(index, owner, mode, first) || !put_runs(index, owner, runs) {
             self.runs = None;
         }
+    }
+
+    /// Puts in the only run of an owner of whom there is none, in room that is held; without that room there is no index any
+    /// more. It takes no memory.
+    pub fn put_only(&mut self, owner: Owner, mode: Mode, span: Span)
+        requires span { IsByteRange span }
+        requires new { HasNoneOf self.old owner }
+        ensures { (modes : ByteModes) → HasJust (modes owner) mode span → IsKeptOutside self.old modes owner span None → IsKeptAs self.new modes }
+    {
+        let Some(index) = &mut self.runs else {
+            return;
+        };
+        let index = index.as_mut();
+        if index.room() == 0 {
+            self.runs = None;
+            return;
+        }
+        index.add(run_of(owner, mode, span));
+    }
+}
+
+/// Takes out the run of the owner that was left at a byte, unless another one is to be put in its place.
+fn take_left(index: &mut RunIndex, owner: Owner, left: Option<u64>, next: Option<u64>)
+    ensures { without_left (as_holder owner) next index.new.runs ≡ without_left (as_holder owner) next (without_left (as_holder owner) left index.old.runs) }
+{
+    match left {
+        Some(byte) if next != left => {
+            index.take(byte, holder(owner));
+        }
+        _ => {}
     }
 }
 
@@ -146,11 +190,22 @@ fn put_runs(index: &mut RunIndex, owner: Owner, runs: Runs<'_>) -> bool
         → AreRunsWhere modes (λ run. passes run || is_listed (as_holder owner) runs.entry run) index.new.runs }
 {
     for (mode, span) in runs {
-        if index.room() == 0 {
+        if !put_run(index, owner, mode, span) {
             return false;
         }
-        index.put(run_of(owner, mode, span));
     }
+    true
+}
+
+/// Puts in this run of the owner, in room that is held, and tells whether there was room.
+fn put_run(index: &mut RunIndex, owner: Owner, mode: Mode, span: Span) -> bool
+    requires { IsByteRange span }
+    ensures { IsTrue result → index.new.runs ≡ with_run (run_by owner mode span) (without span.first (as_holder owner) index.old.runs) }
+{
+    if index.room() == 0 {
+        return false;
+    }
+    index.put(run_of(owner, mode, span));
     true
 }
 
@@ -187,7 +242,7 @@ fn index_of(alloc: Global, owners: &OwnerLists) -> Option<Box<RunIndex>>
 
 /// The run of an owner.
 fn run_of(owner: Owner, mode: Mode, span: Span) -> Run
-    ensures { result ≡ record { span = span; number = (as_holder owner).number; class = (as_holder owner).class; mode = mode } }
+    ensures { result ≡ run_by owner mode span }
 {
     let holder = holder(owner);
     Run {

@@ -1,19 +1,43 @@
-use Rattle.interval_index.proofs.Common.{List, sym, ap, ◌∙◌, subst, Holder, Run, RunContents, AreOrdered, is_from}
-use Rattle.summary_tree.specs.Cuts.{put_before}
-use Rattle.interval_index.proofs.Order.{NoneHas, cut_at, none_has, ordered_with}
+use Rattle.interval_index.proofs.Common.{◌≡◌, None, Some, true, List, sym, ap, ◌∙◌, subst, find, Holder, Run, RunContents, holder_of, AreOrdered, is_from}
+use Rattle.summary_tree.specs.Cuts.{with_first}
+use Rattle.interval_index.specs.Tests.{has_key}
+use Rattle.interval_index.proofs.Order.{cut_at, in_place, ordered_in_place}
 use Rattle.interval_index.proofs.index.RunIndex.put.Goals as goal
 
 abbrev runs_of : RunContents → List Run
 runs_of contents = contents.runs
 
-pub put-requires-clause-cut : goal.put-requires-clause-cut
-put-requires-clause-cut c = cut_at c.args.run.span.first c.holder.result c.self.inside.runs.items c.self.invariant
+-- a run that is the first from the key on has it
+abbrev Held : Run → List Run → Holder → Type 0
+Held run runs holder = (held : Run) × (find (is_from run.span.first holder) runs ≡ Some held) × (has_key run.span.first holder held ≡ true)
+
+pub replace-requires : goal.replace-requires
+replace-requires c = cut_at c.args.run.span.first c.holder.result c.self.inside.runs.items c.self.invariant
+
+pub add-requires-clause-new : goal.add-requires-clause-new
+add-requires-clause-new c =
+    subst (λ (h : Holder). find (has_key c.args.run.span.first h) c.args.self.now.runs ≡ None) c.holder.ensures (c.has.ensures.no c.if-has.false)
+
+pub returns-then-has-clause-runs : goal.returns-then-has-clause-runs
+returns-then-has-clause-runs c =
+    let run = c.args.run in
+    let first = run.span.first in
+    let runs = c.args.self.now.runs in
+    let is = ap runs_of c.self.view_is in
+    let held = subst (Held run runs) c.holder.ensures (c.has.ensures.yes c.if-has.true) in
+    c.replace.ensures.items ∙ ap (λ (h : Holder). with_first (is_from first h) run c.self.inside.runs.items) c.holder.ensures
+    ∙ ap (with_first (is_from first (holder_of run)) run) is
+    ∙ in_place run runs held.0 (subst AreOrdered is c.self.invariant) held.1 held.2
 
 pub invariant_of-self : goal.invariant_of-self
 invariant_of-self c =
-    let first = c.args.run.span.first in
-    let is = ap runs_of c.self.view_is ∙ c.take.ensures.runs in
-    let none = subst (NoneHas first c.holder.result) (sym is) (none_has first c.holder.result c.args.self.now.runs) in
-    let mine = subst (λ (h : Holder). NoneHas first h c.self.inside.runs.items) c.holder.ensures none in
-    let more = c.put.ensures.items ∙ ap (λ (h : Holder). put_before (is_from first h) c.args.run c.self.inside.runs.items) c.holder.ensures in
-    subst AreOrdered (sym more) (ordered_with c.args.run c.self.inside.runs.items c.requires.range c.self.invariant mine)
+    let run = c.args.run in
+    let first = run.span.first in
+    let runs = c.args.self.now.runs in
+    let is = ap runs_of c.self.view_is in
+    let ordered = subst AreOrdered is c.self.invariant in
+    let held = subst (Held run runs) c.holder.ensures (c.has.ensures.yes c.if-has.true) in
+    let items = c.replace.ensures.items ∙ ap (λ (h : Holder). with_first (is_from first h) run c.self.inside.runs.items) c.holder.ensures
+    ∙ ap (with_first (is_from first (holder_of run)) run) is
+    ∙ in_place run runs held.0 ordered held.1 held.2 in
+    subst AreOrdered (sym items) (ordered_in_place run runs c.requires.range ordered)

@@ -18,8 +18,8 @@ invariant_of-self c =
     let puts = PutsAt-removes book owners c.remove.new.self c.args.owner (Some list) written.1 c.remove.ensures.puts in
     let idle = c.is_idle.ensures.0 c.if-is_idle.true in
     let kept = AreKept-removed c.put_in.new.self book c.remove.new.self c.args.owner puts
-    (indexed_set book c.remove.new.self c.args.owner None puts book.index c.take_out.new.self book.indexed c.unwrap-list.result.now list c.put_in.new.self c.args.span c.args.mode
-    written.0 (λ byte. sym (idle.free byte)) c.set_reserved.ensures.modes c.take_out.ensures c.put_in.ensures) in
+    (indexed_set book c.remove.new.self c.args.owner None puts book.index c.take_out-left.new.self book.indexed c.take_out-left.result c.unwrap-list.result.now list c.put_in.new.self c.args.span c.args.mode
+    written.0 (λ byte. sym (idle.free byte)) c.set_reserved.ensures.modes c.take_out-left.ensures c.put_in.ensures) in
     record { in_use = kept.in_use; indexed = kept.indexed }
 
 pub invariant_of-self-else-is_idle : goal.invariant_of-self-else-is_idle
@@ -30,8 +30,8 @@ invariant_of-self-else-is_idle c =
     let written = list_written book owners c.args.owner _ _ list c.get_mut.ensures.value c.unwrap-list.ensures (c.get_mut.follows.holds list) in
     let kept = AreKept-list c.put_in.new.self book owners c.args.owner list written.1
     (λ idle. let yes : c.is_idle.result ≡ true = c.is_idle.ensures.1 idle in let no = c.if-is_idle.false in cc)
-    (indexed_set book owners c.args.owner (Some list) written.1 book.index c.take_out.new.self book.indexed c.unwrap-list.result.now list c.put_in.new.self c.args.span c.args.mode
-    written.0 (λ byte. refl) c.set_reserved.ensures.modes c.take_out.ensures c.put_in.ensures) in
+    (indexed_set book owners c.args.owner (Some list) written.1 book.index c.take_out-left.new.self book.indexed c.take_out-left.result c.unwrap-list.result.now list c.put_in.new.self c.args.span c.args.mode
+    written.0 (λ byte. refl) c.set_reserved.ensures.modes c.take_out-left.ensures c.put_in.ensures) in
     record { in_use = kept.in_use; indexed = kept.indexed }
 
 pub returns-then-is_idle-clause-sets : goal.returns-then-is_idle-clause-sets

@@ -1,4 +1,5 @@
-use Rattle.lock_book.proofs.Common.{IsRun, as_holder}
+use Rattle.lock_book.proofs.Common.{refl, IsRun, as_holder}
+use Rattle.lock_book.specs.Indexing.{run_by}
 use Rattle.lock_book.proofs.IndexLemmas.{puts_all, puts_none, puts_step}
 use Rattle.owner_runs.proofs.ForCallers.{all_came, next_item}
 use Rattle.lock_book.proofs.book.index.put_runs.Goals as goal
@@ -13,8 +14,8 @@ loop-mode-preserved c = (
   λ modes passes each are.
       let its = next_item c.args.runs c.loop-mode.yielded _ _ _ _ c.into_iter-mode-iterator.ensures.into_iter_gives c.loop-mode.yielded_by c.next.ensures.steps
       (λ run. IsRun (modes (as_holder c.args.owner)) run.1.first run.0 run.1) (c.in-Some.mode, c.in-Some.span) c.in-Some.is each in
-      puts_step (as_holder c.args.owner) modes passes c.loop-mode.yielded (c.in-Some.mode, c.in-Some.span) c.loop-mode.index.runs c.put.new.self.runs c.run_of.result
-      c.run_of.ensures c.put.ensures.runs its
+      puts_step (as_holder c.args.owner) modes passes c.loop-mode.yielded (c.in-Some.mode, c.in-Some.span) c.loop-mode.index.runs c.put_run.new.index.runs
+      (run_by c.args.owner c.in-Some.mode c.in-Some.span) refl (c.put_run.ensures c.if-not-put_run.false) its
       (c.loop-mode.invariant.2 modes passes each are),
 )
 
