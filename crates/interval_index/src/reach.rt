@@ -20,9 +20,9 @@ pub(crate) struct Reach {
 /// How far all runs reach, and how far those do that exclude others; and the least owners.
 #[derive(Clone, Copy)]
 pub struct Reaches {
-    all: Reach,
-    writes: Reach,
     pub(crate) least: Least,
+    writes: Reach,
+    all: Reach,
 }
 
 /// The later of two last bytes, if there is one.

@@ -26,16 +26,17 @@ enum Link<T: Copy, S: Summary<T> + Copy> {
     Fork(Box<Node<T, S>>),
 }
 
-/// Some items, those before them and those behind them, and what is kept of all of these.
+/// Some items, those before them and those behind them, and what is kept of all of these. What a search reads on its way down, the
+/// end of the summary, the two sides and the items, lies side by side.
 #[cycle(tree)]
 #[derive(Drop)]
 pub(crate) struct Node<T: Copy, S: Summary<T> + Copy> {
-    pub(crate) left: Subtree<T, S>,
-    pub(crate) right: Subtree<T, S>,
-    pub(crate) summary: S,
     pub(crate) count: u64,
     pub(crate) nodes: u64,
     pub(crate) excess: u64,
+    pub(crate) summary: S,
+    pub(crate) left: Subtree<T, S>,
+    pub(crate) right: Subtree<T, S>,
     pub(crate) block: Block<T, S>,
 }
 
