@@ -44,30 +44,23 @@ class Fault:
         return source
 
 
-RANGE = "    uint64_t first = (uint64_t)lock->l_start, last = last_of(lock);\n    struct asked asked"
+RANGE = ", last = last_of(lock);\n"
 FLUSH = "    dehokuna_flush(&server, file, info->lock_owner);\n"
-BEFORE_GRANTS = "static void answer_grants(void) {\n    uint64_t ticket;\n    while (dehokuna_next_grant(&server, &ticket)) {\n"
-CANCELLED = "    if (dehokuna_cancel(&server, ticket_of(request))) {\n"
-SETLK = "    answer(request, &asked,\n           may_wait"
+FLUSHES = "static void lockfs_flush("
+CANCELLED = "    if (dehokuna_cancel(&server, ticket_of(waiting))) end_wait(waiting, EINTR);\n"
+GRANTS = "    for (uint64_t ticket; dehokuna_next_grant(&server, &ticket);) grant(waiting_of(ticket));\n"
+SET = "        answer(request, &asked, dehokuna_set(&server, file, owner, first, last, mode));\n"
+SETLK = "static void lockfs_setlk("
+END_EARLIER = "    end_earlier(file, info);\n"
+FIELDS = "    uint64_t owner, open_file;\n    uint32_t family;\n    pid_t pid;\n};\n"
+NOT_ANSWERED = "            fuse_reply_none(waiting_of(wait.ticket)->request);\n"
+KEEP = "        struct waiting *kept = keep(request, &asked, info, DEHOKUNA_BYTES, lock->l_pid);\n"
 
-# What each wait for bytes asked for, by its ticket.
-KEPT_WAITS = """static struct kept_wait {
-    uint64_t ticket, file, owner, first, last;
-    uint32_t mode;
-    bool is_lost;
-} kept_waits[4096];
-
-static struct kept_wait *kept_wait_at(uint64_t ticket) { return &kept_waits[ticket / 16 % 4096]; }
-
-"""
-# (only of an owner who has nothing on the file, and asks for nothing else until then)
-KEEP_WAIT = """    for (size_t at = 0; mode != DEHOKUNA_UNLOCK && at < sizeof kept_waits / sizeof *kept_waits; at++)
-        if (kept_waits[at].file == file && kept_waits[at].owner == info->lock_owner && !kept_waits[at].is_lost) kept_waits[at].ticket = 0;
-    struct dehokuna_blocker own = {0};
-    const bool is_plain = !dehokuna_next_lock(&server, file, info->lock_owner, 0, &own) || own.owner != info->lock_owner;
-    if (may_wait && is_plain)
-        *kept_wait_at(ticket_of(request)) = (struct kept_wait){ticket_of(request), file, info->lock_owner, first, last, mode, false};
-"""
+# What a wait for bytes asks for is kept with it.
+RANGE_IS_KEPT = (
+    (FIELDS, FIELDS.replace("};\n", "    uint64_t first, last;\n    uint32_t mode;\n    bool is_plain, is_lost;\n};\n")),
+    (KEEP, KEEP + "        if (kept) kept->first = first, kept->last = last, kept->mode = mode;\n"),
+)
 
 FAULTS = (
     Fault(
@@ -97,17 +90,21 @@ FAULTS = (
         "interrupted-and-granted",
         "an interrupted wait is granted all the same",
         (
-            (BEFORE_GRANTS, KEPT_WAITS + BEFORE_GRANTS + "        kept_wait_at(ticket)->ticket = 0;\n        if (ticket & 1) continue;\n"),
+            *RANGE_IS_KEPT,
+            (GRANTS, GRANTS.replace(" grant(", "\n        if (!waiting_of(ticket)->request) free(waiting_of(ticket));\n        else grant(")),
+            (NOT_ANSWERED, NOT_ANSWERED.replace("fuse_reply", "if (waiting_of(wait.ticket)->request) fuse_reply")),
             (
                 CANCELLED,
-                CANCELLED
-                + "        static uint64_t odd = 1;\n"
-                + "        struct kept_wait *wait = kept_wait_at(ticket_of(request));\n"
-                + "        if (wait->ticket == ticket_of(request))\n"
-                + "            dehokuna_wait(&server, odd += 2, wait->file, wait->owner, wait->first, wait->last, wait->mode, false);\n"
-                + "        wait->ticket = 0;\n",
+                """    struct waiting *kept = waiting;
+    if (kept->family == DEHOKUNA_BYTES && dehokuna_cancel(&server, ticket_of(kept))) {
+        fuse_reply_err(kept->request, EINTR);
+        kept->request = NULL;
+        dehokuna_wait(&server, ticket_of(kept), kept->asked.file, kept->owner, kept->first, kept->last, kept->mode, false);
+        return;
+    }
+"""
+                + CANCELLED,
             ),
-            (SETLK, KEEP_WAIT + SETLK),
         ),
     ),
     Fault(
@@ -129,7 +126,7 @@ FAULTS = (
         (
             ("#include <limits.h>\n", "#include <limits.h>\n#include <poll.h>\n"),
             (
-                "uint32_t mode_of(short type) {\n",
+                SETLK,
                 """static struct fuse_session *all_requests;
 
 static uint32_t set_in_two_steps(uint64_t file, uint64_t owner, uint64_t first, uint64_t last, uint32_t mode) {
@@ -146,10 +143,10 @@ static uint32_t set_in_two_steps(uint64_t file, uint64_t owner, uint64_t first, 
     return DEHOKUNA_DONE;
 }
 
-uint32_t mode_of(short type) {
-""",
+"""
+                + SETLK,
             ),
-            ("dehokuna_set(&server, file, info->lock_owner, first, last, mode));\n", "set_in_two_steps(file, info->lock_owner, first, last, mode));\n"),
+            (SET, SET.replace("dehokuna_set(&server, ", "set_in_two_steps(")),
             ("    bool served = session && serve(session, command);\n", "    all_requests = session;\n    bool served = session && serve(session, command);\n"),
         ),
     ),
@@ -158,14 +155,13 @@ uint32_t mode_of(short type) {
         "an upgrade by flock is granted beside another's shared lock",
         (
             (
-                "    answer(request, &asked,\n           mode == DEHOKUNA_UNLOCK || operation & LOCK_NB\n",
-                """    struct dehokuna_flock_lock held;
-    if (mode == DEHOKUNA_WRITE && dehokuna_next_flock(&server, file, info->lock_owner, &held) && held.owner == info->lock_owner) {
+                END_EARLIER,
+                END_EARLIER
+                + """    struct dehokuna_flock_lock held;
+    if (mode == DEHOKUNA_WRITE && dehokuna_next_flock(&server, file, owner, &held) && held.owner == owner) {
         fuse_reply_err(request, 0);
         return;
     }
-    answer(request, &asked,
-           mode == DEHOKUNA_UNLOCK || operation & LOCK_NB
 """,
             ),
         ),
@@ -174,38 +170,37 @@ uint32_t mode_of(short type) {
         "unlock-wakes-nobody",
         "an unlock wakes nobody",
         (
-            (BEFORE_GRANTS, KEPT_WAITS + BEFORE_GRANTS + "        kept_wait_at(ticket)->ticket = 0;\n"),
-            (
-                CANCELLED,
-                "    if (kept_wait_at(ticket_of(request))->ticket == ticket_of(request) && kept_wait_at(ticket_of(request))->is_lost) {\n"
-                "        kept_wait_at(ticket_of(request))->ticket = 0;\n"
-                "        leave_log(request, EINTR);\n"
-                "        fuse_reply_err(request, EINTR);\n"
-                "        return;\n"
-                "    }\n" + CANCELLED,
-            ),
+            *RANGE_IS_KEPT,
+            (CANCELLED, CANCELLED.replace("if (", "if (((struct waiting *)waiting)->is_lost || ")),
             (
                 SETLK,
-                KEEP_WAIT
-                + """    if (mode == DEHOKUNA_UNLOCK) {
-        dehokuna_set(&server, file, info->lock_owner, first, last, mode);
-        uint64_t ticket;
-        while (dehokuna_next_grant(&server, &ticket)) {
-            struct kept_wait *lost = kept_wait_at(ticket);
-            if (lost->ticket == ticket) {
-                lost->is_lost = true;
-                dehokuna_set(&server, lost->file, lost->owner, lost->first, lost->last, DEHOKUNA_UNLOCK);
-            } else {
-                leave_log((fuse_req_t)(uintptr_t)ticket, 0);
-                fuse_reply_err((fuse_req_t)(uintptr_t)ticket, 0);
-            }
-        }
-        fuse_reply_err(request, 0);
-        return;
+                """/* Whether the owner has nothing on the file. Its waits there are no more its only request. */
+static bool asks_first(fuse_ino_t file, uint64_t owner) {
+    struct dehokuna_owner_wait wait;
+    for (uint64_t from = 0; dehokuna_next_wait(&server, owner, file, from, owner, &wait) && wait.file == file; from = wait.ticket + 1)
+        waiting_of(wait.ticket)->is_plain = false;
+    struct dehokuna_blocker own;
+    return !dehokuna_next_lock(&server, file, owner, 0, &own) || own.owner != owner;
+}
+
+/* A grant can be taken back where the owner asked for nothing else. */
+static uint32_t set_and_wake_nobody(uint64_t file, uint64_t owner, uint64_t first, uint64_t last, uint32_t mode) {
+    const uint32_t status = dehokuna_set(&server, file, owner, first, last, mode);
+    for (uint64_t ticket; mode == DEHOKUNA_UNLOCK && dehokuna_next_grant(&server, &ticket);) {
+        struct waiting *lost = waiting_of(ticket);
+        lost->is_lost = lost->is_plain;
+        if (lost->is_lost) dehokuna_set(&server, lost->asked.file, lost->owner, lost->first, lost->last, DEHOKUNA_UNLOCK);
+        else grant(lost);
     }
+    return status;
+}
+
 """
                 + SETLK,
             ),
+            (RANGE, RANGE + "    const bool is_plain = mode != DEHOKUNA_UNLOCK && asks_first(file, owner);\n"),
+            (KEEP, KEEP + "        if (kept) kept->is_plain = is_plain;\n"),
+            (SET, SET.replace("dehokuna_set(&server, ", "set_and_wake_nobody(")),
         ),
     ),
     Fault(
@@ -213,7 +208,7 @@ uint32_t mode_of(short type) {
         "a killed client's locks stay",
         (
             (
-                "/* A descriptor is closed: the record locks of its process on the file go. */\n",
+                FLUSHES,
                 """/* By the flag PF_SIGNALED of the kernel. */
 static bool was_killed(pid_t pid) {
     char path[32], text[512] = "";
@@ -227,7 +222,8 @@ static bool was_killed(pid_t pid) {
     return behind && sscanf(behind + 2, "%*c %*d %*d %*d %*d %*d %u", &flags) == 1 && flags & 0x400;
 }
 
-""",
+"""
+                + FLUSHES,
             ),
             (
                 FLUSH,
@@ -251,8 +247,8 @@ def build(fault: Fault, to: Path) -> Path:
     source, program = to / f"{fault.name}.c", to / fault.name
     source.write_text(fault.plant(SOURCE.read_text()))
     flags = subprocess.run(["pkg-config", "--cflags", "--libs", "fuse3"], stdout=subprocess.PIPE, check=True, text=True).stdout.split()
-    command = [os.environ.get("CC", "cc"), "-std=gnu11", "-O2", "-g", f"-I{EMBEDDING}", str(source), str(LIBRARY), *flags, "-o", str(program)]
-    subprocess.run(command, check=True)
+    command = [os.environ.get("CC", "cc"), "-std=gnu11", "-O2", "-g", f"-I{EMBEDDING}", f"-I{SOURCE.parent}", str(source), str(LIBRARY), *flags]
+    subprocess.run([*command, "-o", str(program)], check=True)
     return program
 
 

@@ -80,12 +80,12 @@ class Child:
         """Whether the child tells nothing for a while."""
         return not select.select([self.reader], [], [], SILENCE_SECONDS)[0]
 
-    def falls_asleep(self) -> None:
-        """Waits until the child has slept in one lock call for a while."""
+    def falls_asleep(self, thread: Optional[int] = None) -> None:
+        """Waits until the child, or a thread of it, has slept in one lock call for a while."""
         watcher, late = watch.ProcWatcher(), time.monotonic() + PATIENCE_SECONDS
         before = None
         while time.monotonic() < late:
-            now = watcher.look(self.pid)
+            now = watcher.look(thread or self.pid)
             if now and now == before:
                 return
             before = now

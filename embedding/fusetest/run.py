@@ -31,6 +31,7 @@ STEPS: dict[str, tuple[Callable[[Path], None], float]] = {
     "flocks": (descriptions.flocks, 60),
     "grants": (waits.grants, 120),
     "signals": (waits.signals, 180),
+    "closed-meanwhile": (waits.closed_meanwhile, 120),
     "deadlocks": (waits.deadlocks, 120),
     "cycles-of-open-files": (waits.cycles_of_open_files, 120),
     "made-by-mknod": (special.made_by_mknod, 60),

@@ -4,11 +4,13 @@ from __future__ import annotations
 
 import os
 import signal
+import threading
 from pathlib import Path
+from typing import Callable
 
-from fusetest.descriptions import UNTOLD
+from fusetest.descriptions import UNTOLD, soon
 from fusetest.observe import Child, handle_signals, see
-from fusetest.records import ask, by_another, opened
+from fusetest.records import ask, by_another, named, opened
 from harness.calls import flock
 
 
@@ -77,6 +79,65 @@ def signals(path: Path) -> None:
         see(f"{command}: the killed one's lock was never set", wait_for(held, command), "ok")
         ask(held, "setlkw", "w", 0, 0)
         flock(held, "ex", False)
+    os.close(held)
+
+
+def waiting_threads(path: Path, close: Callable[[list[int]], None]) -> Child:
+    """A child of which two threads wait for a byte each, by open files of their own, and tell what they are answered; then a third one closes."""
+
+    def act(self: Child) -> None:
+        descriptors = [opened(path), opened(path)]
+
+        def wait(byte: int) -> None:
+            self.tell(f"{byte} {ask(descriptors[byte], 'setlkw', 'w', byte, 1)}")
+
+        for byte in (0, 1):
+            thread = threading.Thread(target=wait, args=(byte,))
+            thread.start()
+            self.tell(str(thread.native_id))
+        self.stand_by()
+        close(descriptors)
+        self.tell("closed")
+        signal.pause()
+
+    child = Child(act)
+    for thread in [int(child.hear()), int(child.hear())]:
+        child.falls_asleep(thread)
+    child.go_on()
+    return child
+
+
+def closed_meanwhile(path: Path) -> None:
+    """Descriptors are closed while threads wait. A thread whose own one wasn't has its lock; the call of another fails, and leaves no lock."""
+    held = opened(path)
+
+    def close_another(_: list[int]) -> None:
+        os.close(opened(path))
+
+    def close_theirs(descriptors: list[int]) -> None:
+        for descriptor in descriptors:
+            os.close(descriptor)
+
+    def close_and_lock(descriptors: list[int]) -> None:
+        close_theirs(descriptors)
+        ask(opened(path), "setlk", "w", 2, 1)
+
+    ask(held, "setlk", "w", 0, 2)
+    child = waiting_threads(path, close_another)
+    see("another descriptor is closed", child.hear(), "closed")
+    ask(held, "setlk", "u", 0, 1)
+    see("the wait is granted", child.hear(), "0 ok")
+    see("and the process has the lock", named(ask(held, "getlk", "w", 0, 1), child.pid), "held w 0 1 holder")
+    stop(child)
+    for close, order in ((close_theirs, (0, 1)), (close_theirs, (1, 0)), (close_and_lock, (0, 1))):
+        ask(held, "setlkw", "w", 0, 2)
+        child = waiting_threads(path, close)
+        see("the threads' descriptors are closed", child.hear(), "closed")
+        for byte in order:
+            ask(held, "setlk", "u", byte, 1)
+            see(f"the wait for byte {byte} fails", child.hear(), f"{byte} EBADF")
+            see("and leaves no lock", soon(lambda: ask(held, "setlk", "w", byte, 1), "ok"), "ok")
+        stop(child)
     os.close(held)
 
 

@@ -14,8 +14,8 @@
  *
  * One thread reads requests and answers them. What a lock request comes to is the library's to say: nothing here compares locks, queues a
  * wait or looks for a deadlock. To the library a file is its node's number, an owner the number that the kernel gives it, a ticket the
- * address of the request that waits, which no other request has until it is answered. The kernel doesn't tell open file description locks
- * from record locks, so each wait for bytes is one that a deadlock is looked for with. */
+ * address of what is kept of the request that waits, which no other has until it is answered. The kernel doesn't tell open file description
+ * locks from record locks, so each wait for bytes is one that a deadlock is looked for with. */
 #define _GNU_SOURCE
 #include "lockfs.h"
 #include "dehokuna.h"
@@ -77,15 +77,7 @@ static struct path path_of(fuse_ino_t file) {
 
 /* ---- The log of refused requests */
 
-/* A request that waits, which the log needs where it ends by a signal. */
-struct waiting {
-    fuse_req_t request;
-    struct asked asked;
-    struct waiting *next;
-};
-
 static FILE *refusals; /* NULL: there is no log */
-static struct waiting *waiting;
 
 struct asked asked_for_bytes(fuse_req_t request, fuse_ino_t file, const char *call, const struct flock *lock) {
     struct asked asked = {.file = file, .thread = fuse_req_ctx(request)->pid};
@@ -148,25 +140,6 @@ static void refuse(fuse_req_t request, const struct asked *asked, int error) {
     fuse_reply_err(request, error);
 }
 
-/* Where there is no memory, the log won't have it. */
-static void keep_for_log(fuse_req_t request, const struct asked *asked) {
-    struct waiting *kept = refusals ? malloc(sizeof *kept) : NULL;
-    if (!kept) return;
-    *kept = (struct waiting){request, *asked, waiting};
-    waiting = kept;
-}
-
-/* The request waits no more; with an error, it is told. */
-static void leave_log(fuse_req_t request, int error) {
-    struct waiting **at = &waiting;
-    while (*at && (*at)->request != request) at = &(*at)->next;
-    struct waiting *kept = *at;
-    if (!kept) return;
-    if (error) tell_refusal(&kept->asked, error);
-    *at = kept->next;
-    free(kept);
-}
-
 /* ---- Locks */
 
 static struct asker *asker_of(const struct node *node, uint64_t owner, uint32_t family) {
@@ -192,8 +165,8 @@ static bool remember(struct node *node, uint64_t owner, uint32_t family, uint64_
 }
 
 /* false: there is no memory. */
-static bool note(fuse_ino_t file, const struct fuse_file_info *info, pid_t pid) {
-    return remember(node_of(file), info->lock_owner, DEHOKUNA_BYTES, info->fh, pid) && dehokuna_note(&server, file, info->lock_owner, info->fh);
+static bool note(fuse_ino_t file, uint64_t owner, uint64_t open_file, pid_t pid) {
+    return remember(node_of(file), owner, DEHOKUNA_BYTES, open_file, pid) && dehokuna_note(&server, file, owner, open_file);
 }
 
 static pid_t pid_of(const struct node *node, uint64_t owner, uint32_t family) {
@@ -217,32 +190,47 @@ static void forget_askers(struct node *node, bool (*is_meant)(const struct asker
     }
 }
 
-static uint64_t ticket_of(fuse_req_t request) { return (uintptr_t)request; }
+/* A request that may wait: who asks for what through which open file. Its address is its ticket. */
+struct waiting {
+    fuse_req_t request;
+    struct asked asked;
+    uint64_t owner, open_file;
+    uint32_t family;
+    pid_t pid;
+};
+
+static uint64_t ticket_of(const struct waiting *waiting) { return (uintptr_t)waiting; }
+static struct waiting *waiting_of(uint64_t ticket) { return (struct waiting *)(uintptr_t)ticket; }
+
+static void end_wait(struct waiting *waiting, int error) {
+    if (error) log_refusal(&waiting->asked, error);
+    fuse_reply_err(waiting->request, error);
+    free(waiting);
+}
+
+/* The lock is set, and noted again, as another thread's close may have sent a flush meanwhile. Where that closed the request's own descriptor, the
+ * kernel answers by EBADF and tells nobody: then the lock goes with the open file (or stays, where there is no memory). */
+static void grant(struct waiting *waiting) {
+    if (waiting->family == DEHOKUNA_BYTES) note(waiting->asked.file, waiting->owner, waiting->open_file, waiting->pid);
+    end_wait(waiting, 0);
+}
 
 static void answer_grants(void) {
-    uint64_t ticket;
-    while (dehokuna_next_grant(&server, &ticket)) {
-        fuse_req_t request = (fuse_req_t)(uintptr_t)ticket;
-        leave_log(request, 0);
-        fuse_reply_err(request, 0);
-    }
+    for (uint64_t ticket; dehokuna_next_grant(&server, &ticket);) grant(waiting_of(ticket));
 }
 
 /* A signal came while the request waited, or its process was killed. One that was granted is answered already. */
-static void interrupted(fuse_req_t request, void *unused) {
-    (void)unused;
-    if (dehokuna_cancel(&server, ticket_of(request))) {
-        leave_log(request, EINTR);
-        fuse_reply_err(request, EINTR);
-    }
+static void interrupted(fuse_req_t request, void *waiting) {
+    (void)request;
+    if (dehokuna_cancel(&server, ticket_of(waiting))) end_wait(waiting, EINTR);
     answer_grants();
 }
 
-static void let_wait(fuse_req_t request) {
+static void let_wait(struct waiting *waiting) {
     /* Where the signal came before the request, libfuse would call `interrupted` inside the registration, and then use the request that
      * was answered. */
-    if (fuse_req_interrupted(request)) interrupted(request, NULL);
-    else fuse_req_interrupt_func(request, interrupted, NULL);
+    if (fuse_req_interrupted(waiting->request)) interrupted(waiting->request, waiting);
+    else fuse_req_interrupt_func(waiting->request, interrupted, waiting);
 }
 
 static int error_of(uint32_t status) {
@@ -256,14 +244,15 @@ static int error_of(uint32_t status) {
 
 static void answer(fuse_req_t request, const struct asked *asked, uint32_t status) {
     int error = error_of(status);
-    if (status == DEHOKUNA_WAITS) {
-        keep_for_log(request, asked);
-        let_wait(request);
-    } else if (error) {
-        refuse(request, asked, error);
-    } else {
-        fuse_reply_err(request, 0);
-    }
+    if (error) refuse(request, asked, error);
+    else fuse_reply_err(request, 0);
+    answer_grants();
+}
+
+/* Answers a request that may wait, if it doesn't. */
+static void answer_or_wait(struct waiting *waiting, uint32_t status) {
+    if (status == DEHOKUNA_WAITS) let_wait(waiting);
+    else end_wait(waiting, error_of(status));
     answer_grants();
 }
 
@@ -295,18 +284,26 @@ struct flock blocker_told(const struct dehokuna_blocker *blocker, pid_t pid) {
     return told;
 }
 
+/* What is kept of a request that may wait; where there is no memory it is refused. */
+static struct waiting *keep(fuse_req_t request, const struct asked *asked, const struct fuse_file_info *info, uint32_t family, pid_t pid) {
+    struct waiting *kept = malloc(sizeof *kept);
+    if (kept) *kept = (struct waiting){request, *asked, info->lock_owner, info->fh, family, pid};
+    else refuse(request, asked, ENOLCK);
+    return kept;
+}
+
 static void lockfs_setlk(fuse_req_t request, fuse_ino_t file, struct fuse_file_info *info, struct flock *lock, int may_wait) {
     uint32_t mode = mode_of(lock->l_type);
-    uint64_t first = (uint64_t)lock->l_start, last = last_of(lock);
+    uint64_t owner = info->lock_owner, first = (uint64_t)lock->l_start, last = last_of(lock);
     struct asked asked = asked_for_bytes(request, file, may_wait ? "setlkw" : "setlk", lock);
-    if (mode != DEHOKUNA_UNLOCK && !note(file, info, lock->l_pid)) {
+    if (mode != DEHOKUNA_UNLOCK && !note(file, owner, info->fh, lock->l_pid)) {
         refuse(request, &asked, ENOLCK);
-        return;
+    } else if (!may_wait || mode == DEHOKUNA_UNLOCK) {
+        answer(request, &asked, dehokuna_set(&server, file, owner, first, last, mode));
+    } else {
+        struct waiting *kept = keep(request, &asked, info, DEHOKUNA_BYTES, lock->l_pid);
+        if (kept) answer_or_wait(kept, dehokuna_wait(&server, ticket_of(kept), file, owner, first, last, mode, true));
     }
-    answer(request, &asked,
-           may_wait && mode != DEHOKUNA_UNLOCK
-               ? dehokuna_wait(&server, ticket_of(request), file, info->lock_owner, first, last, mode, true)
-               : dehokuna_set(&server, file, info->lock_owner, first, last, mode));
 }
 
 static void lockfs_getlk(fuse_req_t request, fuse_ino_t file, struct fuse_file_info *info, struct flock *lock) {
@@ -333,17 +330,19 @@ static void end_earlier(fuse_ino_t file, const struct fuse_file_info *info) {
 
 static void lockfs_flock(fuse_req_t request, fuse_ino_t file, struct fuse_file_info *info, int operation) {
     uint32_t mode = mode_of_flock(operation);
+    uint64_t owner = info->lock_owner;
     struct asked asked = asked_by_flock(request, file, operation);
     end_earlier(file, info);
-    if (mode != DEHOKUNA_UNLOCK && !remember(node_of(file), info->lock_owner, DEHOKUNA_WHOLE, info->fh, fuse_req_ctx(request)->pid)) {
+    if (mode != DEHOKUNA_UNLOCK && !remember(node_of(file), owner, DEHOKUNA_WHOLE, info->fh, asked.thread)) {
         refuse(request, &asked, ENOLCK);
         answer_grants();
-        return;
+    } else if (mode == DEHOKUNA_UNLOCK || operation & LOCK_NB) {
+        answer(request, &asked, dehokuna_flock(&server, file, owner, mode));
+    } else {
+        struct waiting *kept = keep(request, &asked, info, DEHOKUNA_WHOLE, asked.thread);
+        if (kept) answer_or_wait(kept, dehokuna_flock_wait(&server, ticket_of(kept), file, owner, mode));
+        else answer_grants();
     }
-    answer(request, &asked,
-           mode == DEHOKUNA_UNLOCK || operation & LOCK_NB
-               ? dehokuna_flock(&server, file, info->lock_owner, mode)
-               : dehokuna_flock_wait(&server, ticket_of(request), file, info->lock_owner, mode));
 }
 
 /* ---- The list of locks */
@@ -403,7 +402,7 @@ static void print_locks(FILE *out, fuse_ino_t file) {
 }
 
 /* The thread that sent the request that waits. */
-static pid_t pid_of_request(uint64_t ticket) { return fuse_req_ctx((fuse_req_t)(uintptr_t)ticket)->pid; }
+static pid_t pid_of_request(uint64_t ticket) { return waiting_of(ticket)->asked.thread; }
 
 static void print_waits(FILE *out, fuse_ino_t file) {
     struct dehokuna_waiting wait;
@@ -469,7 +468,7 @@ static void free_list(const struct fuse_file_info *info) {
 
 /* ---- Closes */
 
-/* A descriptor is closed: the record locks of its process on the file go. */
+/* A descriptor is closed: the record locks of its process on the file go. A wait of another thread stays. */
 static void lockfs_flush(fuse_req_t request, fuse_ino_t file, struct fuse_file_info *info) {
     forget_askers(node_of(file), is_owner, info->lock_owner);
     dehokuna_flush(&server, file, info->lock_owner);
@@ -929,11 +928,23 @@ static bool serve(struct fuse_session *session, const struct command *command) {
     return served;
 }
 
+/* Nobody waits for an answer any more. */
+static void free_waits(void) {
+    struct dehokuna_waiting wait;
+    uint64_t file;
+    for (uint64_t from = 0; dehokuna_next_file(&server, from, &file); from = file + 1)
+        for (uint64_t place = 0; dehokuna_wait_at(&server, file, place, &wait); place++) {
+            fuse_reply_none(waiting_of(wait.ticket)->request);
+            free(waiting_of(wait.ticket));
+        }
+}
+
 static bool run(const char *name, const struct command *command) {
     char *words[] = {(char *)name, "-o", "default_permissions,fsname=lockfs,subtype=lockfs", "-o", "allow_other", NULL};
     struct fuse_args arguments = FUSE_ARGS_INIT(command->for_all_users ? 5 : 3, words);
     struct fuse_session *session = fuse_session_new(&arguments, &operations, sizeof operations, NULL);
     bool served = session && serve(session, command);
+    free_waits();
     if (session) fuse_session_destroy(session);
     fuse_opt_free_args(&arguments);
     return served;
@@ -986,7 +997,6 @@ int main(int count, char **words) {
     bool served = run(words[0], &command);
     tdestroy(nodes, forget_node);
     dehokuna_destroy(&server);
-    while (waiting) leave_log(waiting->request, 0);
     if (refusals) fclose(refusals);
     close(root.descriptor);
     return served ? 0 : 1;
