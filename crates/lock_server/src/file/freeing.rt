@@ -22,7 +22,8 @@ impl LockFile {
             family: Family::Bytes,
             span,
         };
-        if self.takes(owner, span, mode) {
+        // Where nobody waits, what the owner has needn't be looked at.
+        if self.waits.is_empty() || self.takes(owner, span, mode) {
             return Freed::Meeting(reach);
         }
         match policy {

@@ -2,8 +2,8 @@ use Rattle.lock_server.proofs.Common.{sym, subst, Option, Mode, Bytes, Policy, N
 use Rattle.lock_server.proofs.FreedLemmas.{set_frees_nobody, set_frees_own, set_frees_there, unlock_frees_nobody}
 use Rattle.lock_server.proofs.file.LockFile.freed_by_set.Goals as goal
 
-pub returns-then-takes : goal.returns-then-takes
-returns-then-takes c = set_frees_there c.args.policy (file_state c.args.self.now) c.args.owner c.args.span c.args.mode
+pub returns-then-is_empty : goal.returns-then-is_empty
+returns-then-is_empty c = set_frees_there c.args.policy (file_state c.args.self.now) c.args.owner c.args.span c.args.mode
 
 pub returns-in-Held : goal.returns-in-Held
 returns-in-Held c =
