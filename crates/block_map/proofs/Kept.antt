@@ -54,9 +54,19 @@ set_same test (e ∷ es) value found = at (test e.0) found (set_same test es val
     at true is rest = let eq : e.1 ≡ value = (let q : Some e.1 ≡ Some value = is in cc) in ap (λ v. (e.0, v) ∷ es) (sym eq)
     at false is rest = ap (λ fs. e ∷ fs) (rest is)
 
+-- what an entry is given is found there
+set_found : {K Y : Type 0} (test : K → Bool) (es : List (K × Y)) (value old : Y) → lookup test es ≡ Some old → lookup test (set_value test es value) ≡ Some value
+set_found test [] value old found = absurd (let no : None ≡ Some old = found in cc)
+set_found test (e ∷ es) value old found = at (test e.0) refl found (set_found test es value old)
+  where
+    at : (b : Bool) → test e.0 ≡ b → cond b (Some e.1) (lookup test es) ≡ Some old → (lookup test es ≡ Some old → lookup test (set_value test es value) ≡ Some value)
+        → lookup test (cond b ((e.0, value) ∷ es) (e ∷ set_value test es value)) ≡ Some value
+    at true is found rest = ap (λ b. cond b (Some value) (lookup test es)) is
+    at false is found rest = ap (λ b. cond b (Some e.1) (lookup test (set_value test es value))) is ∙ rest found
+
 module _ {K X : Type 0} {cmp : K → K → Ordering} (o : IsTotalOrder cmp) where
   -- the block behind the key's bound is the key's
-  placed : (key : K) (blocks : Blocks K X) (bound : Option K) → AreParted cmp blocks.first blocks.others.entries → bound ≡ bound_for cmp key blocks.others.entries
+  pub placed : (key : K) (blocks : Blocks K X) (bound : Option K) → AreParted cmp blocks.first blocks.others.entries → bound ≡ bound_for cmp key blocks.others.entries
       → block_at cmp bound blocks ≡ Some (block_for cmp key blocks.first blocks.others.entries)
   placed key blocks None parted is = ap Some (sym (is_first o key [] blocks.first blocks.others.entries parted (sym is)).block)
   placed key blocks (Some bound) parted is = (is_behind o key bound [] blocks.first blocks.others.entries parted (sym is)).block
@@ -65,7 +75,7 @@ module _ {K X : Type 0} {cmp : K → K → Ordering} (o : IsTotalOrder cmp) wher
   pub is_there : (key : K) (blocks : Blocks K X) (bound : Option K) → AreParted cmp blocks.first blocks.others.entries → bound ≡ bound_for cmp key blocks.others.entries → ¬ (block_at cmp bound blocks ≡ None)
   is_there key blocks bound parted is none = let no : None ≡ Some (block_for cmp key blocks.first blocks.others.entries) = sym none ∙ placed key blocks bound parted is in cc
 
-  its_block : (key : K) (blocks : Blocks K X) (bound : Option K) (block : List (K × X)) → AreParted cmp blocks.first blocks.others.entries → bound ≡ bound_for cmp key blocks.others.entries
+  pub its_block : (key : K) (blocks : Blocks K X) (bound : Option K) (block : List (K × X)) → AreParted cmp blocks.first blocks.others.entries → bound ≡ bound_for cmp key blocks.others.entries
       → block_at cmp bound blocks ≡ Some block → block ≡ block_for cmp key blocks.first blocks.others.entries
   its_block key blocks bound block parted is at = let eq : Some block ≡ Some (block_for cmp key blocks.first blocks.others.entries) = sym at ∙ placed key blocks bound parted is in cc
 
@@ -129,6 +139,11 @@ module _ {K X : Type 0} {cmp : K → K → Ordering} (o : IsTotalOrder cmp) wher
   pub same_blocks : (old new : Blocks K X) (bound : Option K) (block : List (K × X)) → block_at cmp bound old ≡ Some block → SetsBlock cmp bound old new block → SameBlocks old new
   same_blocks old new None block at sets = (sets.0 ∙ (let eq : Some old.first ≡ Some block = at in cc), sets.1)
   same_blocks old new (Some bound) block at sets = (sets.0, sets.1 ∙ set_same (is_at (cmp bound)) old.others.entries block at)
+
+  -- and one that is given others has them
+  pub has_block : (old new : Blocks K X) (bound : Option K) (block es : List (K × X)) → block_at cmp bound old ≡ Some block → SetsBlock cmp bound old new es → block_at cmp bound new ≡ Some es
+  has_block old new None block es at sets = ap Some sets.0
+  has_block old new (Some bound) block es at sets = ap (lookup (is_at (cmp bound))) sets.1 ∙ set_found (is_at (cmp bound)) old.others.entries es block at
 
   -- the same blocks have the same entries, in order
   pub same_entries : (old new : Blocks K X) → SameBlocks old new → entries_in new ≡ entries_in old

@@ -160,3 +160,8 @@ module _ {K X : Type 0} {cmp : K → K → Ordering} (o : IsTotalOrder cmp) wher
   pub last_is : (key : K) (first : List (K × X)) (blocks range rest : List (K × List (K × X))) (block : K × List (K × X)) → AreParted cmp first blocks
       → range ≡ entries_between cmp Unbounded (Included key) blocks → range ≡ rest ++ block ∷ [] → Some block.0 ≡ bound_for cmp key blocks
   last_is key first blocks range rest block parted is parts = sym (last_of rest block) ∙ (ap last_bound (sym parts) ∙ (ap last_bound is ∙ last_within key first blocks parted))
+
+  -- and there is none where nothing is in that range
+  pub none_is : (key : K) (first : List (K × X)) (blocks range : List (K × List (K × X))) → AreParted cmp first blocks
+      → range ≡ entries_between cmp Unbounded (Included key) blocks → range ≡ [] → None ≡ bound_for cmp key blocks
+  none_is key first blocks range parted is none = ap last_bound (sym none) ∙ (ap last_bound is ∙ last_within key first blocks parted)

@@ -1,5 +1,5 @@
 //! Blocks behind their bounds.
-ghost use Rattle.std.specs.Prelude.{◌≡◌, [], None, Some, IfOk, OnErr, OnOk, IsTrue};
+ghost use Rattle.std.specs.Prelude.{◌≡◌, [], None, Some, IfOk, OnErr, OnOk};
 ghost use Rattle.std.specs.Borrow.{sem};
 ghost use Rattle.std.specs.Map.{lookup, remove_entry};
 ghost use Rattle.std.specs.BTreeMap.{insert_entry, is_at};
@@ -24,7 +24,7 @@ pub(crate) struct Blocks<K: Ord + Copy, V> {
 }
 
 impl<K: Ord + Copy, V: Drop> Blocks<K, V> {
-    ghost use Rattle.block_map.specs.Blocks.{bound_for as bound_in, bound_from};
+    ghost use Rattle.block_map.specs.Blocks.{block_for as block_in, bound_for as bound_in, bound_from};
     ghost use Rattle.block_map.specs.Kept.{AreInOrder, behind_bound, block_at, entries_in, HasPlace, KeepsEntries};
     ghost use Rattle.block_map.specs.Lending.{LendsBlock, LendsValue};
 
@@ -40,16 +40,25 @@ impl<K: Ord + Copy, V: Drop> Blocks<K, V> {
         }
     }
 
+    /// The key's block, and its bound where it isn't the first.
+    fn block_for(&self, key: K) -> (Option<K>, &Block<K, V>)
+        requires { AreInOrder K.cmp self.now }
+        ensures bound { result.0 ≡ bound_in K.cmp key self.now.others.entries }
+        ensures block { result.1.now ≡ block_in K.cmp key self.now.first self.now.others.entries }
+    {
+        let mut upto = self.others.range((Bound::Unbounded, Bound::Included(key)));
+        match upto.next_back() {
+            Some((bound, block)) => (Some(*bound), block),
+            None => (None, &self.first),
+        }
+    }
+
     /// The bound of the key's block, where it isn't the first.
     fn bound_for(&self, key: K) -> Option<K>
         requires { AreInOrder K.cmp self.now }
         ensures { result ≡ bound_in K.cmp key self.now.others.entries }
     {
-        let (bound, _) = self
-            .others
-            .range((Bound::Unbounded, Bound::Included(key)))
-            .next_back()?;
-        Some(*bound)
+        self.block_for(key).0
     }
 
     /// The block behind the bound, or the first.
@@ -78,8 +87,7 @@ impl<K: Ord + Copy, V: Drop> Blocks<K, V> {
         requires { AreInOrder K.cmp self.now }
         ensures { option_copied result ≡ lookup (is_at (K.cmp key)) (entries_in self.now) }
     {
-        let bound = self.bound_for(key);
-        self.block(bound)?.get(key)
+        self.block_for(key).1.get(key)
     }
 
     /// The value of the key, which may be changed.
@@ -102,23 +110,24 @@ impl<K: Ord + Copy, V: Drop> Blocks<K, V> {
         ensures err { OnErr result (entries_in self.new ≡ entries_in self.old) }
         ensures parted { AreInOrder K.cmp self.new }
     {
-        self.make_room(key)?;
-        let bound = self.bound_for(key);
+        let bound = self.make_room(key)?;
         self.block_mut(bound).unwrap().insert(key, value)
     }
 
-    /// Where the key's block has no room for one more entry, it is split.
+    /// Makes room for one more entry in the key's block: where it has none, it is split. Says its bound then, where it isn't the first.
     ///
     /// `Memory` leaves the entries as they were.
-    fn make_room(&mut self, key: K) -> Result<(), Memory>
+    fn make_room(&mut self, key: K) -> Result<Option<K>, Memory>
         requires { AreInOrder K.cmp self.old }
-        ensures { KeepsEntries K.cmp self.old self.new }
+        ensures entries { KeepsEntries K.cmp self.old self.new }
+        ensures bound { IfOk result (λ bound. bound ≡ bound_in K.cmp key self.new.others.entries) }
     {
-        let bound = self.bound_for(key);
-        match self.block(bound).unwrap().place_to_split(key) {
-            Some(place) => self.split(bound, place),
-            None => Ok(()),
-        }
+        let (bound, block) = self.block_for(key);
+        let Some(place) = block.place_to_split(key) else {
+            return Ok(bound);
+        };
+        self.split(bound, place)?;
+        Ok(self.bound_for(key))
     }
 
     /// The entries of a block from this place on go to a block of their own.
@@ -152,31 +161,22 @@ impl<K: Ord + Copy, V: Drop> Blocks<K, V> {
         ensures parted { AreInOrder K.cmp self.new }
     {
         let bound = self.bound_for(key);
-        let value = self.block_mut(bound).unwrap().remove(key);
-        self.drop_empty(bound);
+        let block = self.block_mut(bound).unwrap();
+        let value = block.remove(key);
+        if block.is_empty() {
+            self.drop_empty(bound);
+        }
         value
     }
 
-    /// A block behind a bound that has no entry goes.
+    /// The block behind the bound, which has no entry, goes; the first stays.
     fn drop_empty(&mut self, bound: Option<K>)
-        requires { AreInOrder K.cmp self.old }
+        requires parted { AreInOrder K.cmp self.old }
+        requires empty { block_at K.cmp bound self.old ≡ Some [] }
         ensures { KeepsEntries K.cmp self.old self.new }
     {
-        let Some(bound) = bound else {
-            return;
-        };
-        if self.is_empty_at(bound) {
+        if let Some(bound) = bound {
             self.others.remove(&bound);
-        }
-    }
-
-    /// Whether the block behind the bound has no entry.
-    fn is_empty_at(&self, bound: K) -> bool
-        ensures { IsTrue result → lookup (is_at (K.cmp bound)) self.now.others.entries ≡ Some [] }
-    {
-        match self.others.get(&bound) {
-            Some(block) => block.is_empty(),
-            None => false,
         }
     }
 

@@ -1,6 +1,9 @@
-use Rattle.block_map.proofs.Kept.{is_lent, is_there}
+use Rattle.std.proofs.Common.{Some, sym, ap, subst, ◌∙◌}
+use Rattle.block_map.specs.Kept.{HasPlace}
+use Rattle.block_map.proofs.Kept.{placed}
 use Rattle.block_map.proofs.blocks.Blocks.make_room.Goals as goal
 
-pub unwrap-requires : goal.unwrap-requires
-unwrap-requires g c =
-    is_lent c.block.result _ c.block.ensures (is_there g.met.K.Ord.total c.args.key c.args.self.now c.bound_for-bound.result c.requires.1 c.bound_for-bound.ensures)
+pub split-requires-clause-place : goal.split-requires-clause-place
+split-requires-clause-place g c =
+    subst (λ block. HasPlace block c.in-Some.place)
+    (ap Some c.block_for-bound.ensures.block ∙ sym (placed g.met.K.Ord.total c.args.key c.args.self.now c.block_for-bound.result.0 c.requires.1 c.block_for-bound.ensures.bound)) c.in-Some.ensures
