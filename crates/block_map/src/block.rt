@@ -111,14 +111,14 @@ impl<K: Ord + Copy, V: Drop> Block<K, V> {
         self.entries.is_empty()
     }
 
-    /// Where there is no room for one more entry: from where on the entries are to go to another block.
+    /// Where there is no room for one more entry, and the key has none: from where on the entries are to go to another block.
     ///
     /// Where the key belongs behind all, only the last entry goes, so that keys that rise leave full blocks behind.
     pub(crate) fn place_to_split(&self, key: K) -> Option<usize>
         ensures { IfSome result (λ place. (0 < place) × (place < length self.now)) }
     {
         let len = self.entries.len();
-        if len < BLOCK {
+        if len < BLOCK || self.place_of(key).is_ok() {
             return None;
         }
         if self.entries[len - 1].0 < key {

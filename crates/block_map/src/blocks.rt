@@ -114,7 +114,7 @@ impl<K: Ord + Copy, V: Drop> Blocks<K, V> {
         self.block_mut(bound).unwrap().insert(key, value)
     }
 
-    /// Makes room for one more entry in the key's block: where it has none, it is split. Says its bound then, where it isn't the first.
+    /// Makes room for the key in its block: where there is none, the block is split. Says its bound then, where it isn't the first.
     ///
     /// `Memory` leaves the entries as they were.
     fn make_room(&mut self, key: K) -> Result<Option<K>, Memory>
