@@ -1,3 +1,4 @@
+pub mod BesideLemmas
 pub mod Crossing
 pub mod CutLemmas
 pub mod Depths

@@ -110,7 +110,8 @@ last_got (x ∷ xs) =
     let n : suc (length xs) - 1 ≡ length xs = omega arith in
     ap (λ i. slice_get (x ∷ xs) i) n ∙ last_there None x xs
 
-last_append : {X : Type 0} (o : Option X) (xs ys : List X) → last_or o (xs ++ ys) ≡ last_or (last_or o xs) ys
+-- the last of two lists
+pub last_append : {X : Type 0} (o : Option X) (xs ys : List X) → last_or o (xs ++ ys) ≡ last_or (last_or o xs) ys
 last_append o [] ys = refl
 last_append o (x ∷ xs) ys = last_append (Some x) xs ys
 
@@ -133,7 +134,8 @@ pub last_right : {X : Type 0} (xs l b r : List X) (y : X) → xs ≡ l ++ (b ++ 
 last_right xs l b r y is h =
     ap (last_or None) is ∙ last_append None l (b ++ r) ∙ last_append (last_or None l) b r ∙ last_of_some (last_or (last_or None l) b) r y h
 
-last_any : {X : Type 0} (o : Option X) (ys : List X) → 0 < length ys → last_or o ys ≡ last_or None ys
+-- the last of some items, whatever else would be told
+pub last_any : {X : Type 0} (o : Option X) (ys : List X) → 0 < length ys → last_or o ys ≡ last_or None ys
 last_any o [] h = absurd (omega arith)
 last_any o (x ∷ ys) h = refl
 

@@ -1,10 +1,10 @@
 //! Items that lie side by side.
 ghost use Rattle.std.specs.Prelude.{◌≡◌, ◌+◌, ◌-◌, ◌<◌, ◌≤◌, [], ◌∷◌, ◌++◌, length, take, drop, true, None, Some, IfOk, slice_index_or, slice_set, List};
-ghost use Rattle.std.specs.List.{find, last_or, position_or_len, insert, remove};
+ghost use Rattle.std.specs.List.{find, last_or, position_or_len, slice_get, insert, remove};
 ghost use Rattle.summary_tree.specs.Cuts.{before, both, first_passes, last_passes, put_before, with_first, without_first};
 ghost use Rattle.summary_tree.specs.Sizes.{block_size, part_size};
 
-use crate::{BLOCK, Cut, PART, Query, Summary, Walk, slices};
+use crate::{BLOCK, Beside, Cut, PART, Query, Summary, Walk, slices};
 use std::alloc::{AllocError, Global};
 use std::marker::Model;
 
@@ -86,6 +86,21 @@ impl<T: Copy, S: Summary<T> + Copy> Block<T, S> {
         ensures { result ≡ find (C.is_behind cut.now) self.now }
     {
         slices::first_from(&self.items, cut)
+    }
+
+    /// The last item before a place, and the first from it on.
+    pub(crate) fn beside<C: Cut<T>>(&self, cut: &C) -> Beside<T>
+        ensures before { result.before ≡ last_or None (before (C.is_behind cut.now) self.now) }
+        ensures behind { result.behind ≡ find (C.is_behind cut.now) self.now }
+    {
+        slices::beside(&self.items, cut)
+    }
+
+    /// The first item.
+    pub(crate) fn first(&self) -> Option<T>
+        ensures { result ≡ slice_get self.now 0 }
+    {
+        slices::first(&self.items)
     }
 
     /// The last item.

@@ -74,6 +74,15 @@ pub trait Cut<T> {
         ensures { result ≡ is_behind self.now item.now };
 }
 
+/// What stands beside a place.
+#[derive(Clone, Copy)]
+pub struct Beside<T: Copy> {
+    /// The last item before it.
+    pub before: Option<T>,
+    /// The first item from it on.
+    pub behind: Option<T>,
+}
+
 /// What is gathered from items that are gone through in order, with a look at summaries, which may tell enough of the
 /// items below them. What is asked stays as it is.
 pub trait Walk<T, S: Summary<T>, F> {

@@ -6,7 +6,7 @@ ghost use Rattle.summary_tree.specs.Sizes.{block_size, part_size, puts_until_spl
 
 use crate::places::Places;
 use crate::subtree::{Node, Subtree, of_items, of_one};
-use crate::{Cut, PUTS, Query, Summary, Walk};
+use crate::{Beside, Cut, PUTS, Query, Summary, Walk};
 use range_core::{Memory, counted};
 use std::alloc::Global;
 use std::marker::Model;
@@ -99,6 +99,19 @@ impl<T: Copy, S: Summary<T> + Copy> Many<T, S> {
         ensures { result ≡ find (C.is_behind cut.now) self.now.items }
     {
         self.items.first_from(cut)
+    }
+
+    /// The last item before a place, and the first from it on.
+    pub(crate) fn beside<C: Cut<T>>(&self, cut: &C) -> Beside<T>
+        requires { IsCutBy (C.is_behind cut.now) self.now.items }
+        ensures before { result.before ≡ last_or None (before (C.is_behind cut.now) self.now.items) }
+        ensures behind { result.behind ≡ find (C.is_behind cut.now) self.now.items }
+    {
+        let nothing = Beside {
+            before: None,
+            behind: None,
+        };
+        self.items.beside(cut, nothing)
     }
 
     /// The last item.

@@ -1,9 +1,9 @@
 //! What is asked of items that lie side by side.
 ghost use Rattle.std.specs.Prelude.{◌≡◌, ◌++◌, List, None};
-ghost use Rattle.std.specs.List.{find, last_or, position_or_len};
+ghost use Rattle.std.specs.List.{find, last_or, position_or_len, slice_get};
 ghost use Rattle.summary_tree.specs.Cuts.{before, both};
 
-use crate::{Cut, Query, Summary, Walk};
+use crate::{Beside, Cut, Query, Summary, Walk};
 
 /// The first item that is looked for.
 pub(crate) fn first_where<T: Copy, S: Summary<T>, Q: Query<T, S>>(
@@ -48,11 +48,30 @@ pub(crate) fn first_from<T: Copy, C: Cut<T>>(items: &[T], cut: &C) -> Option<T>
     None
 }
 
+/// The first item.
+pub(crate) fn first<T: Copy>(items: &[T]) -> Option<T>
+    ensures { result ≡ slice_get items.now 0 }
+{
+    items.first().copied()
+}
+
 /// The last item.
 pub(crate) fn last<T: Copy>(items: &[T]) -> Option<T>
     ensures { result ≡ last_or None items.now }
 {
     items.last().copied()
+}
+
+/// The last item before a place, and the first from it on.
+pub(crate) fn beside<T: Copy, C: Cut<T>>(items: &[T], cut: &C) -> Beside<T>
+    ensures before { result.before ≡ last_or None (before (C.is_behind cut.now) items.now) }
+    ensures behind { result.behind ≡ find (C.is_behind cut.now) items.now }
+{
+    let place = place_of(items, cut);
+    Beside {
+        before: last(&items[..place]),
+        behind: first(&items[place..]),
+    }
 }
 
 /// Gathers from all items.

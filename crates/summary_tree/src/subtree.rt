@@ -1,13 +1,14 @@
 //! The nodes, and what is asked of them.
 ghost use Rattle.std.specs.Prelude.{◌≡◌, ◌+◌, ◌*◌, ◌<◌, ◌≤◌, ◌^◌, [], ◌∷◌, ◌++◌, List, None, length};
 ghost use Rattle.std.specs.List.{find, last_or};
+ghost use Rattle.std.specs.Option.{option_or};
 ghost use Rattle.summary_tree.specs.Cuts.{before, both, IsCutBy};
 
 mod balancing;
 mod changing;
 
 use crate::block::Block;
-use crate::{Cut, Query, Summary, Walk};
+use crate::{Beside, Cut, Query, Summary, Walk};
 pub(crate) use changing::{of_items, of_one};
 use std::marker::Model;
 
@@ -222,6 +223,29 @@ impl<T: Copy, S: Summary<T> + Copy> Subtree<T, S> {
                     return Some(found);
                 }
                 node.block.first_from(cut)
+            }
+        }
+    }
+
+    /// The last item before a place, and the first from it on: in place of one that is not among these, what stands outside on its side.
+    pub(crate) fn beside<C: Cut<T>>(&self, cut: &C, outside: Beside<T>) -> Beside<T>
+        requires { IsCutBy (C.is_behind cut.now) self.now.items }
+        ensures before { result.before ≡ last_or outside.before (before (C.is_behind cut.now) self.now.items) }
+        ensures behind { result.behind ≡ option_or (find (C.is_behind cut.now) self.now.items) outside.behind }
+    {
+        match &self.link {
+            Link::Empty => outside,
+            Link::Fork(node) => {
+                let node: &Node<T, S> = node;
+                if !node.block.ends_behind(cut) {
+                    let before = node.block.last();
+                    return node.right.beside(cut, Beside { before, ..outside });
+                }
+                if node.block.begins_behind(cut) {
+                    let behind = node.block.first();
+                    return node.left.beside(cut, Beside { behind, ..outside });
+                }
+                node.block.beside(cut)
             }
         }
     }

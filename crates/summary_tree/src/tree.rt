@@ -5,7 +5,7 @@ ghost use Rattle.summary_tree.specs.Cuts.{before, both, IsCutBy, put_before, wit
 
 use crate::few::Few;
 use crate::many::Many;
-use crate::{Cut, Query, Summary, Walk, slices};
+use crate::{Beside, Cut, Query, Summary, Walk, slices};
 use range_core::Memory;
 use std::alloc::Global;
 use std::marker::Model;
@@ -95,6 +95,18 @@ impl<T: Copy, S: Summary<T> + Copy> Tree<T, S> {
         match &self.items {
             Items::Few(few) => slices::first_from(few.items(), cut),
             Items::Many(many) => many.first_from(cut),
+        }
+    }
+
+    /// The last item before a place, and the first from it on.
+    pub fn beside<C: Cut<T>>(&self, cut: &C) -> Beside<T>
+        requires { IsCutBy (C.is_behind cut.now) self.now.items }
+        ensures before { result.before ≡ last_or None (before (C.is_behind cut.now) self.now.items) }
+        ensures behind { result.behind ≡ find (C.is_behind cut.now) self.now.items }
+    {
+        match &self.items {
+            Items::Few(few) => slices::beside(few.items(), cut),
+            Items::Many(many) => many.beside(cut),
         }
     }
 

@@ -172,6 +172,15 @@ fn rise(rt: &impl Abort, tree: &mut Tree<u64, Total>) -> Result<(), Memory> {
     Ok(())
 }
 
+/// What stands before all numbers and behind them.
+#[tactic(auto, using(crate::proofs::Ends::cut_everywhere, crate::proofs::Ends::cut_nowhere))]
+fn has_ends(rt: &impl Abort, tree: &Tree<u64, Total>, first: Option<u64>, last: Option<u64>) {
+    let front = tree.beside(&Front);
+    same(rt, (front.before, front.behind), (None, first));
+    let back = tree.beside(&Back);
+    same(rt, (back.before, back.behind), (last, None));
+}
+
 /// What the tree then tells.
 fn tells_of_all(rt: &impl Abort, tree: &Tree<u64, Total>) {
     same(rt, tree.len(), 20000);
@@ -179,6 +188,7 @@ fn tells_of_all(rt: &impl Abort, tree: &Tree<u64, Total>) {
     assert!(rt; tree.depth() <= 20);
     same(rt, tree.first_where(&From(17777)), Some(17777));
     same(rt, tree.first_where(&From(20000)), None);
+    has_ends(rt, tree, Some(0), Some(19999));
     let total = Total {
         count: 20000,
         sum: sum_below(20000),
@@ -258,7 +268,9 @@ fn grow(rt: &impl Abort, tree: &mut Tree<u64, Total>) -> Result<(), Memory> {
 #[test]
 fn a_refused_growth_leaves_the_tree_as_it_was(rt: HostRuntime) -> Result<(), Fail> {
     let tree: &mut Tree<u64, Total> = &mut Tree::new(rt.alloc());
+    has_ends(&rt, tree, None, None);
     grow(&rt, tree)?;
     same(&rt, tree.len(), 70);
+    has_ends(&rt, tree, Some(0), Some(69));
     Ok(())
 }
