@@ -17,14 +17,6 @@ pub none_found : {X : Type 0} (p : X → Bool) (xs : List X) → list_any p xs �
 none_found p [] h = refl
 none_found p (x ∷ xs) h = none_found_at p x xs (p x) h (none_found p xs)
 
--- the item at the end is the last
-pub last_at : {X : Type 0} (p : X → Bool) (xs : List X) (d : X) → 0 < length xs → p (slice_index_or xs (length xs - 1) d) ≡ last_passes p xs
-last_at p [] d h = absurd (omega arith)
-last_at p (x ∷ []) d h = refl
-last_at p (x ∷ y ∷ xs) d h =
-    let n : suc (suc (length xs)) - 1 ≡ suc (suc (length xs) - 1) = omega arith in
-    ap (λ i. p (slice_index_or (x ∷ y ∷ xs) i d)) n ∙ last_at p (y ∷ xs) d (omega arith)
-
 -- of a list xs that is split into l, b and r: the first that passes stands in l
 pub found_left : {X : Type 0} (p : X → Bool) (xs l b r : List X) (y : X) → xs ≡ l ++ (b ++ r) → find p l ≡ Some y → find p xs ≡ Some y
 found_left p xs l b r y is h = ap (find p) is ∙ (find-append p l (b ++ r) ∙ ap (λ o. option_or o (find p (b ++ r))) h)
@@ -143,3 +135,16 @@ last_any o (x ∷ ys) h = refl
 pub last_here : {X : Type 0} (xs l b r : List X) → xs ≡ l ++ (b ++ r) → last_or None r ≡ None → 0 < length b → last_or None xs ≡ last_or None b
 last_here xs l b r is h some =
     ap (last_or None) is ∙ last_append None l (b ++ r) ∙ last_append (last_or None l) b r ∙ ap (last_or (last_or (last_or None l) b)) (no_last r h) ∙ last_any (last_or None l) b some
+
+last_told_at : {X : Type 0} (p : X → Bool) (x : X) (xs : List X) (y : X) → last_or (Some x) xs ≡ Some y → p y ≡ last_passes p (x ∷ xs)
+last_told_at p x [] y h = let e : Some x ≡ Some y = h in cc
+last_told_at p x (z ∷ xs) y h = last_told_at p z xs y h
+
+-- the last passes where it is said to
+pub last_told : {X : Type 0} (p : X → Bool) (xs : List X) (y : X) → last_or None xs ≡ Some y → p y ≡ last_passes p xs
+last_told p [] y h = absurd (let no : None ≡ Some y = h in cc)
+last_told p (x ∷ xs) y h = last_told_at p x xs y h
+
+-- and none does where there is no last
+pub none_told : {X : Type 0} (p : X → Bool) (xs : List X) → last_or None xs ≡ None → false ≡ last_passes p xs
+none_told p xs h = ap (last_passes p) (sym (no_last xs h))

@@ -1,4 +1,5 @@
 pub mod Balance
+pub mod Blocks
 pub mod Contents
 pub mod Cuts
 pub mod Items

@@ -1,6 +1,7 @@
 //! Items that lie side by side.
 ghost use Rattle.std.specs.Prelude.{◌≡◌, ◌+◌, ◌-◌, ◌<◌, ◌≤◌, [], ◌∷◌, ◌++◌, length, take, drop, true, None, Some, IfOk, slice_index_or, slice_set, List};
 ghost use Rattle.std.specs.List.{find, last_or, position_or_len, slice_get, insert, remove};
+ghost use Rattle.summary_tree.specs.Blocks.{AreEnds};
 ghost use Rattle.summary_tree.specs.Cuts.{before, both, first_passes, last_passes, put_before, with_first, without_first};
 ghost use Rattle.summary_tree.specs.Sizes.{block_size, part_size};
 
@@ -8,22 +9,32 @@ use crate::{BLOCK, Beside, Cut, PART, Query, Summary, Walk, slices};
 use std::alloc::{AllocError, Global};
 use std::marker::Model;
 
-/// Up to [`BLOCK`] items in order, and what is kept of them.
+/// Up to [`BLOCK`] items in order, and what is kept of them. The ends lie beside the sides of a node, so a search goes past a block
+/// without a look at its items, which lie elsewhere.
 #[derive(Drop)]
 pub(crate) struct Block<T: Copy, S: Summary<T> + Copy> {
+    ends: Ends<T>,
     items: Vec<T>,
     summary: S,
 }
 
+/// The first item and the last, if there are any.
+#[derive(Clone, Copy)]
+struct Ends<T: Copy> {
+    first: Option<T>,
+    last: Option<T>,
+}
+
 impl<T: Copy, S: Summary<T> + Copy> Model for Block<T, S> {
     ghost use Rattle.std.specs.Prelude.{List, ◌≤◌, vec_len, vec_capacity};
+    ghost use Rattle.summary_tree.specs.Blocks.{AreEnds};
     ghost use Rattle.summary_tree.specs.Sizes.{block_size};
 
     ghost Value = { List T };
 
     ghost view = { λ a. a.items.items };
 
-    ghost invariant = { λ a. S.tells a.summary a.items.items × (block_size ≤ vec_capacity a.items) × (vec_len a.items ≤ block_size) };
+    ghost invariant = { λ a. S.tells a.summary a.items.items × (block_size ≤ vec_capacity a.items) × (vec_len a.items ≤ block_size) × AreEnds a.ends a.items.items };
 }
 
 impl<T: Copy, S: Summary<T> + Copy> Block<T, S> {
@@ -33,6 +44,7 @@ impl<T: Copy, S: Summary<T> + Copy> Block<T, S> {
     {
         let items = Vec::with_capacity(alloc, BLOCK)?;
         Ok(Block {
+            ends: ends_of(&items),
             items,
             summary: S::none(),
         })
@@ -100,14 +112,14 @@ impl<T: Copy, S: Summary<T> + Copy> Block<T, S> {
     pub(crate) fn first(&self) -> Option<T>
         ensures { result ≡ slice_get self.now 0 }
     {
-        slices::first(&self.items)
+        self.ends.first
     }
 
     /// The last item.
     pub(crate) fn last(&self) -> Option<T>
         ensures { result ≡ last_or None self.now }
     {
-        slices::last(&self.items)
+        self.ends.last
     }
 
     /// Gathers from all items.
@@ -141,18 +153,22 @@ impl<T: Copy, S: Summary<T> + Copy> Block<T, S> {
 
     /// Whether the first item stands at a place or behind it.
     pub(crate) fn begins_behind<C: Cut<T>>(&self, cut: &C) -> bool
-        requires { 0 < length self.now }
         ensures { result ≡ first_passes (C.is_behind cut.now) self.now }
     {
-        cut.is_behind(&self.items[0])
+        match &self.ends.first {
+            Some(first) => cut.is_behind(first),
+            None => false,
+        }
     }
 
     /// Whether the last item stands at a place or behind it.
     pub(crate) fn ends_behind<C: Cut<T>>(&self, cut: &C) -> bool
-        requires { 0 < length self.now }
         ensures { result ≡ last_passes (C.is_behind cut.now) self.now }
     {
-        cut.is_behind(&self.items[self.items.len() - 1])
+        match &self.ends.last {
+            Some(last) => cut.is_behind(last),
+            None => false,
+        }
     }
 
     /// Puts an item into an empty block.
@@ -171,6 +187,7 @@ impl<T: Copy, S: Summary<T> + Copy> Block<T, S> {
     {
         self.items.extend_from_slice(items).unwrap();
         self.summary = summary_of(&self.items);
+        self.ends = ends_of(&self.items);
     }
 
     /// Puts an item in before the first that stands at a place or behind it.
@@ -208,6 +225,7 @@ impl<T: Copy, S: Summary<T> + Copy> Block<T, S> {
     {
         self.items.insert(place, item).unwrap();
         self.summary.add(&item);
+        self.ends = ends_of(&self.items);
     }
 
     /// The same where there is no room: some of the items go into an empty block.
@@ -237,6 +255,7 @@ impl<T: Copy, S: Summary<T> + Copy> Block<T, S> {
         ensures rest { self.new ≡ remove self.old place }
     {
         let item = self.items.remove(place);
+        self.ends = ends_of(&self.items);
         if !self.summary.leave(&item) {
             self.summary = summary_of(&self.items);
         }
@@ -274,6 +293,7 @@ impl<T: Copy, S: Summary<T> + Copy> Block<T, S> {
         let replaced = self.items[place];
         let stays = self.summary.leave(&replaced);
         self.items[place] = item;
+        self.ends = ends_of(&self.items);
         if stays {
             self.summary.add(&item);
         } else {
@@ -288,6 +308,7 @@ impl<T: Copy, S: Summary<T> + Copy> Block<T, S> {
     {
         self.items.clear();
         self.summary = S::none();
+        self.ends = ends_of(&self.items);
     }
 
     /// Moves the items from a place on into an empty block.
@@ -300,6 +321,7 @@ impl<T: Copy, S: Summary<T> + Copy> Block<T, S> {
         next.fill(&self.items[place..]);
         self.items.truncate(place);
         self.summary = summary_of(&self.items);
+        self.ends = ends_of(&self.items);
     }
 }
 
@@ -317,6 +339,16 @@ fn middle_for(place: usize) -> usize
         BLOCK - PART
     } else {
         BLOCK / 2
+    }
+}
+
+/// The ends of items.
+fn ends_of<T: Copy>(items: &[T]) -> Ends<T>
+    ensures { AreEnds result items.now }
+{
+    Ends {
+        first: slices::first(items),
+        last: slices::last(items),
     }
 }
 

@@ -1,10 +1,14 @@
-use Rattle.std.proofs.Common.{◌≡◌, length, ap, arith}
-use Rattle.summary_tree.proofs.ListLemmas.{last_at}
+use Rattle.std.proofs.Common.{sym, ap, ◌∙◌}
+use Rattle.summary_tree.specs.Cuts.{last_passes}
+use Rattle.summary_tree.proofs.ListLemmas.{last_told, none_told}
 use Rattle.summary_tree.proofs.block.Block.ends_behind.Goals as goal
 
-pub returns : goal.returns
-returns g c =
-    let e = last_at (g.C.Cut.is_behind c.args.cut.now) c.args.self.now c.index.result.now c.requires in
-    let is = c.self.view_is in
-    let n : c.len.result ≡ length c.args.self.now = omega (arith, c.len.ensures, c.self.inside.items.ok.0, ap length is) in
-    (cc)
+pub returns-in-Some : goal.returns-in-Some
+returns-in-Some g c =
+    let p = g.C.Cut.is_behind c.args.cut.now in
+    c.is_behind.ensures ∙ (last_told p c.self.inside.items.items _ (sym c.self.invariant.3.last ∙ c.in-Some.is) ∙ ap (last_passes p) c.self.view_is)
+
+pub returns-in-None : goal.returns-in-None
+returns-in-None g c =
+    let p = g.C.Cut.is_behind c.args.cut.now in
+    none_told p c.self.inside.items.items (sym c.self.invariant.3.last ∙ c.in-None.is) ∙ ap (last_passes p) c.self.view_is
