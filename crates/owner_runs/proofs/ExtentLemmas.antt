@@ -1,6 +1,6 @@
 -- From which byte to which bytes have a mode.
-use Rattle.std.proofs.Common.{ℕ, suc, ◌≡◌, ◌≢◌, ◌-◌, ◌<◌, ◌≤◌, inl, inr, Bool, cond, refl, sym, ap, ◌∙◌, subst, Option, Some, None, List, [], ◌∷◌, length, arith}
-use Rattle.std.specs.List.{All, AllByRecursion, find, last_or, slice_get}
+use Rattle.std.proofs.Common.{ℕ, suc, ◌≡◌, ◌-◌, ◌<◌, ◌≤◌, inl, inr, Bool, cond, refl, sym, ap, ◌∙◌, subst, Option, Some, None, List, [], ◌∷◌, length, arith}
+use Rattle.std.specs.List.{All, find, last_or, slice_get}
 use Rattle.std.proofs.lemmas.Bool.{cases_lt, le-leb}
 use Rattle.range_core.specs.declared.Mode.{Mode}
 use Rattle.range_core.specs.declared.Span.{Span}
@@ -9,7 +9,7 @@ use Rattle.range_core.specs.Ranges.{AreRuns, IsApart, IsByteRange, Modes}
 use Rattle.owner_runs.specs.Lists.{IsExtent}
 use Rattle.owner_runs.specs.Tests.{ends_from}
 use Rattle.owner_runs.specs.Trees.{AreOrdered}
-use Rattle.owner_runs.proofs.FindLemmas.{next_found}
+use Rattle.owner_runs.proofs.FindLemmas.{last_one, next_found, some_last}
 use Rattle.owner_runs.proofs.ModeLemmas.{above, covered}
 use Rattle.owner_runs.proofs.RunLemmas.{modes_of_runs, ordered_from}
 
@@ -34,20 +34,10 @@ pub none_first : (runs : List (Mode × Span)) → find (ends_from 0) runs ≡ No
 none_first [] none byte = refl
 none_first (run ∷ runs) none byte = absurd (let no : Some run ≡ None = sym (first_found (run ∷ runs)) ∙ none in cc)
 
-some_last : (run : Mode × Span) (runs : List (Mode × Span)) → last_or (Some run) runs ≢ None
-some_last run [] none = absurd (let no : Some run ≡ None = none in cc)
-some_last run (other ∷ runs) none = some_last other runs none
-
 -- where there is no last run, there is none
 pub none_last : (runs : List (Mode × Span)) → last_or None runs ≡ None → (byte : ℕ) → mode_in runs byte ≡ None
 none_last [] none byte = refl
 none_last (run ∷ runs) none byte = absurd (some_last run runs none)
-
--- what holds of each run holds of the last
-last_one : (P : Mode × Span → Type 0) (runs : List (Mode × Span)) (last : Mode × Span) → AllByRecursion P runs → last_or None runs ≡ Some last → P last
-last_one P [] last all is = absurd (let no : None ≡ Some last = is in cc)
-last_one P (run ∷ []) last all is = let same : run ≡ last = cc in subst P same all.0
-last_one P (run ∷ other ∷ runs) last all is = last_one P (other ∷ runs) last all.1 is
 
 -- the run lies within a file, and there is nothing behind it
 record IsLastRun (modes : Modes) (run : Mode × Span) : Type 0 where

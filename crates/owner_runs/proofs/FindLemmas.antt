@@ -1,15 +1,16 @@
--- The run that is found at a byte or behind it, and the one that is found there to conflict.
-use Rattle.std.proofs.Common.{ℕ, ◌≡◌, ◌+◌, ◌<◌, ◌≤◌, Bool, true, false, cond, leb, refl, sym, ap, ◌∙◌, subst, Option, Some, None, List, [], ◌∷◌, arith}
-use Rattle.std.specs.List.{AllByRecursion, filter, find}
-use Rattle.std.proofs.lemmas.Bool.{and_from, and_left, and_right, le-leb, lt-leb, leb-true, leb-false}
+-- The run that is found at a byte or behind it, and the last one before it.
+use Rattle.std.proofs.Common.{ℕ, ◌≡◌, ◌≢◌, ◌+◌, ◌<◌, ◌≤◌, inl, inr, Bool, true, false, cond, leb, refl, sym, ap, ◌∙◌, subst, Option, Some, None, List, [], ◌∷◌, arith}
+use Rattle.std.specs.List.{AllByRecursion, filter, find, last_or}
+use Rattle.std.proofs.lemmas.Bool.{and_from, and_left, and_right, cases_lt, le-leb, lt-leb, leb-true, leb-false}
 use Rattle.range_core.specs.declared.TheConstants.{OFFMAX}
 use Rattle.range_core.specs.declared.Mode.{Mode}
 use Rattle.range_core.specs.declared.Span.{Span}
 use Rattle.range_core.specs.Ranges.{IsApart}
 use Rattle.range_core.specs.Changes.{mode_in}
+use Rattle.summary_tree.specs.Cuts.{before}
 use Rattle.owner_runs.specs.Tests.{ends_from, meets}
-use Rattle.owner_runs.specs.Trees.{AreOrdered, IsNext, IsNextRun}
-use Rattle.owner_runs.proofs.ModeLemmas.{above, below}
+use Rattle.owner_runs.specs.Trees.{AreOrdered, IsNext, IsNextRun, IsPrior}
+use Rattle.owner_runs.proofs.ModeLemmas.{above, below, covered}
 use Rattle.owner_runs.proofs.OrderLemmas.{none_upto, whole_behind, whole_first}
 
 found_at : (P : Mode × Span → Type 0) (p : Mode × Span → Bool) (first run : Mode × Span) (runs : List (Mode × Span)) (b : Bool) → P first → cond b (Some first) (find p runs) ≡ Some run → (find p runs ≡ Some run → P run) → P run
@@ -64,6 +65,78 @@ none_found byte other (first ∷ runs) none from = none_at byte other first runs
 pub next_is : (byte : ℕ) (runs : List (Mode × Span)) (next : Option (Mode × Span)) → AreOrdered runs → next ≡ find (ends_from byte) runs → IsNext runs byte next
 next_is byte runs None ordered is = record { found = is; run = tt; none = λ other from. none_found byte other runs (sym is) from }
 next_is byte runs (Some run) ordered is = record { found = is; run = next_found byte runs run ordered (sym is); none = tt }
+
+-- where there are runs, there is a last one
+pub some_last : (run : Mode × Span) (runs : List (Mode × Span)) → last_or (Some run) runs ≢ None
+some_last run [] none = absurd (let no : Some run ≡ None = none in cc)
+some_last run (other ∷ runs) none = some_last other runs none
+
+-- what holds of each run holds of the last
+pub last_one : (P : Mode × Span → Type 0) (runs : List (Mode × Span)) (last : Mode × Span) → AllByRecursion P runs → last_or None runs ≡ Some last → P last
+last_one P [] last all is = absurd (let no : None ≡ Some last = is in cc)
+last_one P (run ∷ []) last all is = let same : run ≡ last = cc in subst P same all.0
+last_one P (run ∷ other ∷ runs) last all is = last_one P (other ∷ runs) last all.1 is
+
+-- and of those before the first that passes
+all_before : (P : Mode × Span → Type 0) (p : Mode × Span → Bool) (runs : List (Mode × Span)) → AllByRecursion P runs → AllByRecursion P (before p runs)
+all_before P p [] all = tt
+all_before P p (run ∷ runs) all =
+    elim (p run) as (λ b. AllByRecursion P (cond b [] (run ∷ before p runs))) [ true ↦ tt | false ↦ (all.0, all_before P p runs all.1) ]
+
+-- a run in front is the last before a byte where none behind it is
+prior_first : (byte : ℕ) (first : Mode × Span) (runs : List (Mode × Span)) → AreOrdered (first ∷ runs) → first.1.last < byte → IsPrior (mode_in runs) byte None → IsPrior (mode_in (first ∷ runs)) byte (Some first)
+prior_first byte first runs ordered ends rest = record {
+  run = record {
+    range = ordered.0;
+    whole = whole_first first runs ordered.0.0 ordered.1;
+    ends = ends;
+    free = λ free other from upto. rw (above first.1 other from) (rest.none (rw (above first.1 byte ends) at free) other upto);
+  };
+  none = tt;
+}
+
+-- and else leaves that one the last
+prior_behind : (byte : ℕ) (first : Mode × Span) (runs : List (Mode × Span)) (prior : Option (Mode × Span)) → prior ≢ None → first.1.last < byte → ((run : Mode × Span) → prior ≡ Some run → IsApart first run)
+    → IsPrior (mode_in runs) byte prior → IsPrior (mode_in (first ∷ runs)) byte prior
+prior_behind byte first runs None some ends apart rest = absurd (some refl)
+prior_behind byte first runs (Some run) some ends apart rest =
+    let prior = rest.run in
+    let less = (apart run refl).0 in
+    let size = prior.range.0 in
+    record {
+      run = record {
+        range = prior.range;
+        whole = whole_behind first run runs size (apart run refl) prior.whole;
+        ends = prior.ends;
+        free = λ free other from upto. rw (above first.1 other (omega arith)) (prior.free (rw (above first.1 byte ends) at free) other from upto);
+      };
+      none = tt;
+    }
+
+prior_with : (byte : ℕ) (first : Mode × Span) (runs low : List (Mode × Span)) → AreOrdered (first ∷ runs) → first.1.last < byte → AllByRecursion (IsApart first) low → IsPrior (mode_in runs) byte (last_or None low)
+    → IsPrior (mode_in (first ∷ runs)) byte (last_or (Some first) low)
+prior_with byte first runs [] ordered ends apart rest = prior_first byte first runs ordered ends rest
+prior_with byte first runs (other ∷ low) ordered ends apart rest =
+    prior_behind byte first runs (last_or (Some other) low) (some_last other low) ends (λ run is. last_one (IsApart first) (other ∷ low) run apart is) rest
+
+prior_at : (byte : ℕ) (first : Mode × Span) (runs : List (Mode × Span)) (b : Bool) → ends_from byte first ≡ b → AreOrdered (first ∷ runs) → IsPrior (mode_in runs) byte (last_or None (before (ends_from byte) runs))
+    → IsPrior (mode_in (first ∷ runs)) byte (last_or None (cond b [] (first ∷ before (ends_from byte) runs)))
+prior_at byte first runs true test ordered rest =
+    let reaches = leb-true byte first.1.last test in
+    record {
+      run = tt;
+      none = λ free other low. elim (cases_lt other first.1.first) [
+        | inl lower ↦ rw (below first.1 other lower) (none_upto first runs other ordered.1 (omega arith))
+        | inr from ↦ absurd (let no : Some first.0 ≡ None = rw (covered first.1 byte (omega arith) reaches) at free in cc)
+      ];
+    }
+prior_at byte first runs false test ordered rest =
+    prior_with byte first runs (before (ends_from byte) runs) ordered (leb-false byte first.1.last test) (all_before (IsApart first) (ends_from byte) runs ordered.1) rest
+
+-- the last run before the first that ends at a byte or behind it is the last that ends before that byte
+pub prior_is : (byte : ℕ) (runs : List (Mode × Span)) → AreOrdered runs → IsPrior (mode_in runs) byte (last_or None (before (ends_from byte) runs))
+prior_is byte [] ordered = record { run = tt; none = λ free other low. refl }
+prior_is byte (first ∷ runs) ordered = prior_at byte first runs (ends_from byte first) refl ordered (prior_is byte runs ordered.2)
 
 -- whether runs behind one meet bytes hangs on the last byte alone
 meets_behind : (from last : ℕ) (run : Mode × Span) (runs : List (Mode × Span)) → AllByRecursion (IsApart run) runs → AreOrdered runs → from ≤ run.1.last → filter (meets from last) runs ≡ filter (meets (run.1.last + 1) last) runs

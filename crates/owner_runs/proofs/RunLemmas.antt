@@ -1,16 +1,18 @@
 -- Runs in order are the runs of the modes that they give, and the runs of modes are in order.
-use Rattle.std.proofs.Common.{ℕ, zero, suc, ◌≡◌, ◌≢◌, ◌+◌, ◌<◌, ◌==◌, inl, inr, Bool, true, false, cond, refl, sym, ap, ◌∙◌, subst, Option, Some, None, List, [], ◌∷◌, length, get_or, arith}
-use Rattle.std.specs.List.{All, AllByRecursion, AllPairs, Any, filter}
+use Rattle.std.proofs.Common.{ℕ, zero, suc, ◌≡◌, ◌≢◌, ◌+◌, ◌<◌, ◌≤◌, ◌==◌, inl, inr, Bool, true, false, cond, refl, sym, ap, ◌∙◌, subst, Option, Some, None, List, [], ◌∷◌, length, get_or, arith}
+use Rattle.std.specs.List.{All, AllByRecursion, AllPairs, Any, filter, find}
 use Rattle.std.proofs.lemmas.Bool.{cases_lt}
 use Rattle.std.proofs.lemmas.List.Elements.{All-from_recursion, recursion_from_All}
 use Rattle.range_core.specs.declared.Mode.{Mode}
 use Rattle.range_core.specs.declared.Span.{Span}
 use Rattle.range_core.specs.Ranges.{AreRuns, Covers, IsApart, IsByteRange, IsRun, Modes}
 use Rattle.range_core.specs.Changes.{mode_in}
+use Rattle.owner_runs.specs.Tests.{ends_from}
 use Rattle.owner_runs.specs.Trees.{AreOrdered, IsWhole}
+use Rattle.owner_runs.proofs.FindLemmas.{next_found, none_found}
 use Rattle.owner_runs.proofs.ModeLemmas.{cases_covers, covered}
 use Rattle.owner_runs.proofs.OrderLemmas.{all_ranges, all_rising, all_whole}
-use Rattle.owner_runs.proofs.PieceLemmas.{run_of_whole}
+use Rattle.owner_runs.proofs.PieceLemmas.{not_free, one_mode, run_of_whole}
 
 pub any_here : (P : Mode × Span → Type 0) (run : Mode × Span) (runs : List (Mode × Span)) → P run → Any P (run ∷ runs)
 any_here P run runs holds = (0, run, omega arith, refl, holds)
@@ -133,6 +135,33 @@ same_run modes run other mode is other_is covers =
     let last : run.last ≡ other.last = omega arith in
     let Made : ℕ → ℕ → Span = λ a b. record { first = a; last = b } in
     ap (λ (a : ℕ). Made a run.last) first ∙ ap (λ (b : ℕ). Made other.first b) last
+
+whole_at : (runs : List (Mode × Span)) (run : Mode × Span) (found : Option (Mode × Span)) → find (ends_from run.1.last) runs ≡ found → AreOrdered runs → run.1.first ≤ run.1.last → IsWhole (mode_in runs) run → found ≡ Some run
+whole_at runs run None is ordered some whole =
+    absurd (not_free (mode_in runs) run.1.last run.0 (whole.constant run.1.last (some, omega arith)) (none_found run.1.last run.1.last runs is (omega arith)))
+whole_at runs run (Some other) is ordered some whole =
+    let modes = mode_in runs in
+    let next = next_found run.1.last runs other ordered is in
+    let reaches = next.reaches in
+    let size = next.range.0 in
+    let has = whole.constant run.1.last (some, omega arith) in
+    let begins : other.1.first ≤ run.1.last = elim (cases_lt run.1.last other.1.first) [
+      | inl late ↦ absurd (not_free modes run.1.last run.0 has (next.free run.1.last (omega arith) late))
+      | inr upto ↦ upto
+    ] in
+    let mode : other.0 ≡ run.0 = one_mode modes run.1.last other.0 run.0 (next.whole.constant run.1.last (begins, reaches)) has in
+    let first : IsRun modes run.1.first run.0 run.1 = run_of_whole modes run run.1.first whole (omega arith, some) in
+    let second : IsRun modes other.1.first run.0 other.1 = subst (λ (m : Mode). IsRun modes other.1.first m other.1) mode (run_of_whole modes other other.1.first next.whole (omega arith, size)) in
+    let span : other.1 ≡ run.1 = elim (cases_lt run.1.first other.1.first) [
+      | inl lower ↦ sym (same_run modes run.1 other.1 run.0 first second (omega arith, begins))
+      | inr from ↦ same_run modes other.1 run.1 run.0 second first (from, omega arith)
+    ] in
+    let Made : Mode → Span → Mode × Span = λ m s. (m, s) in
+    ap Some (ap (λ (m : Mode). Made m other.1) mode ∙ ap (λ (s : Span). Made run.0 s) span)
+
+-- a run of the modes is found at its last byte
+pub found_whole : (runs : List (Mode × Span)) (run : Mode × Span) → AreOrdered runs → run.1.first ≤ run.1.last → IsWhole (mode_in runs) run → find (ends_from run.1.last) runs ≡ Some run
+found_whole runs run ordered some whole = whole_at runs run (find (ends_from run.1.last) runs) refl ordered some whole
 
 free_at : (modes : Modes) (runs : List (Mode × Span)) (byte : ℕ) (mode : Option Mode) → modes byte ≡ mode → AreRuns modes runs → length runs ≡ 0 → modes byte ≡ None
 free_at modes runs byte None is are none = is

@@ -32,6 +32,18 @@ pub record IsNext (runs : List (Mode × Span)) (byte : ℕ) (next : Option (Mode
   pub run : IfSome next (IsNextRun (mode_in runs) byte)
   pub none : IfNone next ((other : ℕ) → byte ≤ other → mode_in runs other ≡ None)
 
+-- the run is the last that ends before the byte: where this has no mode, neither has one between them
+pub record IsPriorRun (modes : Modes) (byte : ℕ) (run : Mode × Span) : Type 0 where
+  pub range : IsByteRange run.1
+  pub whole : IsWhole modes run
+  pub ends : run.1.last < byte
+  pub free : modes byte ≡ None → (other : ℕ) → run.1.last < other → other < byte → modes other ≡ None
+
+-- this is the last run that ends before the byte, or none: where this has no mode then, neither has one before it
+pub record IsPrior (modes : Modes) (byte : ℕ) (prior : Option (Mode × Span)) : Type 0 where
+  pub run : IfSome prior (IsPriorRun modes byte)
+  pub none : IfNone prior (modes byte ≡ None → (other : ℕ) → other < byte → modes other ≡ None)
+
 -- the piece is of the run's mode, has a byte, and lies within the run
 pub record IsPieceOf (run piece : Mode × Span) : Type 0 where
   pub mode : piece.0 ≡ run.0

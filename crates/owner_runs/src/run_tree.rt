@@ -1,13 +1,13 @@
 //! The runs in a tree.
-ghost use Rattle.std.specs.Prelude.{ℕ, ◌≡◌, ◌≢◌, ◌+◌, ◌-◌, ◌<◌, ◌≤◌, ◌↔◌, [], ◌∷◌, length, All, None, Some, IfNone, IfSome, IsFalse, IsOk, IsTrue, OnErr, OnOk};
+ghost use Rattle.std.specs.Prelude.{ℕ, ◌≡◌, ◌≢◌, ◌+◌, ◌-◌, ◌<◌, ◌≤◌, ◌↔◌, [], ◌∷◌, length, All, List, None, Some, IfNone, IfSome, IsFalse, IsOk, IsTrue, OnErr, OnOk};
 ghost use Rattle.std.specs.List.{filter, find};
 ghost use Rattle.range_core.specs.declared.TheConstants.{OFFMAX};
 ghost use Rattle.range_core.specs.declared.Mode.{Mode};
 ghost use Rattle.range_core.specs.declared.Span.{Span};
 ghost use Rattle.range_core.specs.Changes.{mode_in};
-ghost use Rattle.range_core.specs.Ranges.{AreRuns, Covers, HeldConflicts, IsByteRange, IsFirstHit, IsRun, SplitsRun};
+ghost use Rattle.range_core.specs.Ranges.{AreRuns, Covers, HeldConflicts, IsByteRange, IsConstant, IsFirstHit, IsRun, SplitsRun};
 ghost use Rattle.owner_runs.specs.Tests.{ends_from, meets};
-ghost use Rattle.owner_runs.specs.Trees.{AreRunsTouching, IsCutOut, IsFree, IsFreedBehind, IsGapFor, IsNext, IsNextRun, IsPieceOf, IsSetOn, IsShortened, IsWhole};
+ghost use Rattle.owner_runs.specs.Trees.{AreRunsTouching, IsCutOut, IsFree, IsFreedBehind, IsGapFor, IsNext, IsNextRun, IsPieceOf, IsPrior, IsSetOn, IsShortened, IsWhole};
 
 use crate::cuts::EndingFrom;
 use crate::runs::Runs;
@@ -15,7 +15,7 @@ use crate::writes::{Conflicting, Writes};
 use range_core::{Memory, Mode, OFFMAX, Span};
 use std::alloc::Global;
 use std::marker::Model;
-use summary_tree::Tree;
+use summary_tree::{Beside, Tree};
 
 /// The runs by rising bytes, the largest ranges that have one mode throughout; and room for more runs.
 ///
@@ -111,13 +111,6 @@ impl RunTree {
     {
         let run = self.runs.first_from(&EndingFrom(first))?;
         if run.1.first <= last { Some(run) } else { None }
-    }
-
-    /// The first run that ends at the byte or behind it.
-    fn next(&self, byte: u64) -> Option<(Mode, Span)>
-        ensures { IsNext self.now.items byte result }
-    {
-        self.runs.first_from(&EndingFrom(byte))
     }
 
     /// The least byte of the span whose mode conflicts with a lock of the mode `against` by another owner, and `None`
@@ -228,6 +221,14 @@ impl RunTree {
         }
     }
 
+    /// The last run that ends before the byte, and the first that ends at it or behind it.
+    pub(crate) fn beside(&self, byte: u64) -> Beside<(Mode, Span)>
+        ensures before { IsPrior (mode_in self.now.items) byte result.before }
+        ensures behind { IsNext self.now.items byte result.behind }
+    {
+        self.runs.beside(&EndingFrom(byte))
+    }
+
     /// Sets the mode on just the bytes of the span, and uses up room for two runs at most. It takes no memory.
     pub(crate) fn set(&mut self, span: Span, mode: Mode)
         requires span { IsByteRange span }
@@ -235,51 +236,63 @@ impl RunTree {
         ensures modes { IsSetOn (mode_in self.old.items) (mode_in self.new.items) span (Some mode) }
         ensures room { self.old.room ≤ self.new.room + 2 }
     {
-        match self.next(span.first) {
+        let beside = self.beside(span.first);
+        if is_set(beside.behind, span, mode) {
+            return;
+        }
+        self.set_beside(span, mode, beside);
+    }
+
+    /// Sets the mode as [`RunTree::set`] does, beside the runs that were found there.
+    pub(crate) fn set_beside(&mut self, span: Span, mode: Mode, beside: Beside<(Mode, Span)>)
+        requires span { IsByteRange span }
+        requires before { IsPrior (mode_in self.old.items) span.first beside.before }
+        requires behind { IsNext self.old.items span.first beside.behind }
+        requires room { 2 ≤ self.old.room }
+        ensures modes { IsSetOn (mode_in self.old.items) (mode_in self.new.items) span (Some mode) }
+        ensures room { self.old.room ≤ self.new.room + 2 }
+    {
+        match beside.behind {
             Some((_, run)) if run.first <= span.last => {
                 self.unlock(span);
-                let next = self.next(span.first);
-                self.lock(span, mode, next);
+                let beside = self.beside(span.first);
+                self.lock(span, mode, beside);
             }
-            next => self.lock(span, mode, next),
+            _ => self.lock(span, mode, beside),
         }
     }
 
-    /// Sets the mode on just the bytes of the span, none of which has one, before the next run, and uses up room for one run at
-    /// most.
-    fn lock(&mut self, span: Span, mode: Mode, next: Option<(Mode, Span)>)
+    /// Sets the mode on just the bytes of the span, none of which has one, and uses up room for one run at most.
+    fn lock(&mut self, span: Span, mode: Mode, beside: Beside<(Mode, Span)>)
         requires span { IsByteRange span }
         requires free { IsFree (mode_in self.old.items) span }
-        requires next { IsNext self.old.items span.first next }
+        requires before { IsPrior (mode_in self.old.items) span.first beside.before }
+        requires behind { IsNext self.old.items span.first beside.behind }
         requires room { 0 < self.old.room }
         ensures modes { IsSetOn (mode_in self.old.items) (mode_in self.new.items) span (Some mode) }
         ensures room { self.old.room ≤ self.new.room + 1 }
     {
-        let last = self.join_behind(span, mode, next);
-        match self.run_before(span.first, mode) {
-            Some(run) => self.lengthen(run, last),
-            None => {
-                let first = span.first;
-                self.put((mode, Span { first, last }));
-            }
-        }
+        let last = self.join_behind(span, mode, beside.behind);
+        let first = span.first;
+        self.join_before(Span { first, last }, mode, beside.before);
     }
 
-    /// The run of the mode that ends right before this byte, which has none.
-    fn run_before(&self, byte: u64, mode: Mode) -> Option<(Mode, Span)>
-        requires { mode_in self.now.items byte ≡ None }
-        ensures found { IfSome result (λ run. find (ends_from run.1.last) self.now.items ≡ Some run) }
-        ensures run { IfSome result (IsWhole (mode_in self.now.items)) }
-        ensures mode { IfSome result (λ run. run.0 ≡ mode) }
-        ensures ends { IfSome result (λ run. (run.1.first ≤ run.1.last) × (run.1.last + 1 ≡ byte)) }
-        ensures none { IfNone result ((other : ℕ) → other + 1 ≡ byte → mode_in self.now.items other ≢ Some mode) }
+    /// Sets the mode on just the bytes of the span, none of which has one, and right behind which none begins: it lengthens the run
+    /// before the span, where that is of the mode and ends right there, and else puts a run in.
+    fn join_before(&mut self, span: Span, mode: Mode, before: Option<(Mode, Span)>)
+        requires span { IsByteRange span }
+        requires free { IsFree (mode_in self.old.items) span }
+        requires before { IsPrior (mode_in self.old.items) span.first before }
+        requires behind { mode_in self.old.items (span.last + 1) ≢ Some mode }
+        requires room { 0 < self.old.room }
+        ensures modes { IsSetOn (mode_in self.old.items) (mode_in self.new.items) span (Some mode) }
+        ensures room { self.old.room ≤ self.new.room + 1 }
     {
-        if byte == 0 {
-            return None;
-        }
-        match self.meeting(byte - 1, byte - 1) {
-            Some((held, run)) if held == mode => Some((held, run)),
-            _ => None,
+        match before {
+            Some((held, run)) if held == mode && run.last + 1 == span.first => {
+                self.lengthen((held, run), span.last);
+            }
+            _ => self.put((mode, span)),
         }
     }
 
@@ -305,7 +318,7 @@ impl RunTree {
 
     /// Lengthens the run up to this byte; the room stays.
     fn lengthen(&mut self, run: (Mode, Span), last: u64)
-        requires found { find (ends_from run.1.last) self.old.items ≡ Some run }
+        requires run { (run.1.first ≤ run.1.last) × IsWhole (mode_in self.old.items) run }
         requires last { (run.1.last ≤ last) × (last ≤ OFFMAX) }
         requires free { (byte : ℕ) → run.1.last < byte → byte ≤ last → mode_in self.old.items byte ≡ None }
         requires behind { mode_in self.old.items (last + 1) ≢ Some run.0 }
@@ -344,6 +357,17 @@ impl RunTree {
         ensures room { self.new.room + 1 ≡ self.old.room }
     {
         self.runs.put(&EndingFrom(run.1.first), run);
+    }
+}
+
+/// Whether the next run from the first byte of the span on is of the mode and reaches over all of it.
+pub(crate) fn is_set(next: Option<(Mode, Span)>, span: Span, mode: Mode) -> bool
+    requires { IsByteRange span }
+    ensures { (runs : List (Mode × Span)) → IsNext runs span.first next → IsTrue result ↔ IsConstant (mode_in runs) span mode }
+{
+    match next {
+        Some((held, run)) => held == mode && run.first <= span.first && span.last <= run.last,
+        None => false,
     }
 }
 

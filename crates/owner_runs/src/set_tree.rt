@@ -1,10 +1,11 @@
 //! The runs in a tree, with room for sets.
-ghost use Rattle.std.specs.Prelude.{ℕ, ◌≡◌, ◌+◌, ◌*◌, ◌<◌, ◌≤◌, ◌^◌, [], None, IfOk, IsFalse, IsOk, IsTrue, OnErr, OnOk, length};
+ghost use Rattle.std.specs.Prelude.{ℕ, ◌≡◌, ◌+◌, ◌*◌, ◌<◌, ◌≤◌, ◌^◌, [], None, Some, IfOk, IsOk, OnErr, OnOk, length};
+ghost use Rattle.range_core.specs.declared.Mode.{Mode};
 ghost use Rattle.range_core.specs.Changes.{mode_in, SetsMode};
-ghost use Rattle.range_core.specs.Ranges.{IsByteRange, SplitsRun};
+ghost use Rattle.range_core.specs.Ranges.{IsByteRange, IsConstant, SplitsRun};
 ghost use Rattle.owner_runs.specs.Trees.{AreOrdered};
 
-use crate::run_tree::RunTree;
+use crate::run_tree::{RunTree, is_set};
 use range_core::{Memory, Mode, Span, counted};
 use std::alloc::Global;
 
@@ -38,31 +39,69 @@ impl SetTree {
 
     /// Sets the mode on just the bytes of the span, or removes it where `mode` is `None`; the room that is held stays.
     ///
-    /// `Memory`, which never comes where an unlock splits no run, leaves the tree as it was.
+    /// `Memory`, which never comes where an unlock splits no run or a lock is there already, leaves the tree as it was.
     pub(crate) fn set(&mut self, span: Span, mode: Option<Mode>) -> Result<(), Memory>
         requires { IsByteRange span }
         ensures ok { OnOk result (SetsMode (mode_in self.old.runs.items) (mode_in self.new.runs.items) span mode) }
         ensures room { self.new.room ≡ self.old.room }
         ensures unlock { mode ≡ None → (¬ SplitsRun (mode_in self.old.runs.items) span) → IsOk result }
+        ensures again { (wanted : Mode) → mode ≡ Some wanted → IsConstant (mode_in self.old.runs.items) span wanted → IsOk result }
         ensures err { OnErr result (self.new.runs.items ≡ self.old.runs.items) }
     {
-        if !self.wants_room(span, mode) {
-            self.runs.unlock(span);
+        match mode {
+            Some(wanted) => self.lock(span, wanted),
+            None => self.unlock(span),
+        }
+    }
+
+    /// Sets the mode on just the bytes of the span; the room that is held stays.
+    ///
+    /// `Memory`, which never comes where they have it already, leaves the tree as it was.
+    fn lock(&mut self, span: Span, mode: Mode) -> Result<(), Memory>
+        requires { IsByteRange span }
+        ensures ok { OnOk result (SetsMode (mode_in self.old.runs.items) (mode_in self.new.runs.items) span (Some mode)) }
+        ensures room { self.new.room ≡ self.old.room }
+        ensures again { IsConstant (mode_in self.old.runs.items) span mode → IsOk result }
+        ensures err { OnErr result (self.new.runs.items ≡ self.old.runs.items) }
+    {
+        let beside = self.runs.beside(span.first);
+        if is_set(beside.behind, span, mode) {
             return Ok(());
         }
-        let held = 2 * self.room as u64;
-        self.runs.reserve(counted(held, 2)?)?;
-        change(&mut self.runs, span, mode);
+        self.make_room()?;
+        self.runs.set_beside(span, mode, beside);
         Ok(())
     }
 
-    /// Whether a set may put runs in: it is no unlock, or splits a run.
-    fn wants_room(&self, span: Span, mode: Option<Mode>) -> bool
+    /// Removes the mode of just the bytes of the span; the room that is held stays.
+    ///
+    /// `Memory`, which never comes where that splits no run, leaves the tree as it was.
+    fn unlock(&mut self, span: Span) -> Result<(), Memory>
         requires { IsByteRange span }
-        ensures yes { IsTrue result → mode ≡ None → SplitsRun (mode_in self.now.runs.items) span }
-        ensures no { IsFalse result → (mode ≡ None) × ¬ SplitsRun (mode_in self.now.runs.items) span }
+        ensures ok { OnOk result (SetsMode (mode_in self.old.runs.items) (mode_in self.new.runs.items) span None) }
+        ensures room { self.new.room ≡ self.old.room }
+        ensures whole { (¬ SplitsRun (mode_in self.old.runs.items) span) → IsOk result }
+        ensures err { OnErr result (self.new.runs.items ≡ self.old.runs.items) }
     {
-        mode.is_some() || self.runs.is_split_by(span)
+        if !self.runs.is_split_by(span) {
+            self.runs.unlock(span);
+            return Ok(());
+        }
+        self.make_room()?;
+        self.runs.unlock(span);
+        Ok(())
+    }
+
+    /// Makes room for one set more than those that room is held for.
+    ///
+    /// `Memory` leaves the tree as it was.
+    fn make_room(&mut self) -> Result<(), Memory>
+        ensures items { self.new.runs.items ≡ self.old.runs.items }
+        ensures held { self.new.room ≡ self.old.room }
+        ensures ok { OnOk result (2 * self.old.room + 2 ≤ self.new.runs.room) }
+    {
+        let held = 2 * self.room as u64;
+        self.runs.reserve(counted(held, 2)?)
     }
 
     /// Sets the mode as [`SetTree::set`] does, in room that was held: it takes no memory and uses one place up.
