@@ -62,7 +62,8 @@ impl OwnerRuns {
     /// Sets the mode on just the bytes of the span, or removes it where `mode` is `None`; the room that is held stays
     /// (POSIX.1-2017 fcntl, `F_SETLK`: the new lock replaces the owner's old ones on these bytes).
     ///
-    /// `Memory`, which never comes where an unlock splits no run, leaves the runs as they were.
+    /// A lock that is there already changes nothing. `Memory`, which never comes where an unlock splits no run, leaves the runs as they
+    /// were.
     pub fn set(&mut self, span: Span, mode: Option<Mode>) -> Result<(), Memory>
         requires { IsByteRange span }
         ensures ok { OnOk result (SetsMode (modes_of self.old) (modes_of self.new) span mode) }
@@ -70,6 +71,9 @@ impl OwnerRuns {
         ensures unlock { mode ≡ None → (¬ SplitsRun (modes_of self.old) span) → IsOk result }
         ensures err { OnErr result (SameRuns self.old self.new) }
     {
+        if self.is_listed_already(span, mode) {
+            return Ok(());
+        }
         self.ready(span, mode);
         match &mut self.kept {
             Kept::Lone(lone) => {
@@ -80,6 +84,28 @@ impl OwnerRuns {
             }
             Kept::Few(list) => list.set(span, mode),
             Kept::Many(tree) => tree.set(span, mode),
+        }
+    }
+
+    /// Whether each byte of the span has the mode already; of an unlock it isn't said.
+    pub fn has_already(&self, span: Span, mode: Option<Mode>) -> bool
+        requires { IsByteRange span }
+        ensures { IsTrue result → (byte : ℕ) → Covers span byte → modes_of self.now byte ≡ mode }
+    {
+        match (mode, self.run_at(span.first)) {
+            (Some(mode), Some((held, run))) => held == mode && span.last <= run.last,
+            _ => false,
+        }
+    }
+
+    /// The same, as a list tells: a tree looks on its way, when it is set.
+    fn is_listed_already(&self, span: Span, mode: Option<Mode>) -> bool
+        requires { IsByteRange span }
+        ensures { IsTrue result → (byte : ℕ) → Covers span byte → modes_of self.now byte ≡ mode }
+    {
+        match self.kept {
+            Kept::Many(_) => false,
+            Kept::Lone(_) | Kept::Few(_) => self.has_already(span, mode),
         }
     }
 
