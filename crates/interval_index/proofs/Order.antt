@@ -1,5 +1,5 @@
 -- Facts on runs in order.
-use Rattle.interval_index.proofs.Common.{◌≡◌, ℕ, ◌<◌, ◌≤◌, ◌⊎◌, Bool, true, false, not, cond, ◌&&◌, ◌||◌, leb, Some, None, List, [], ◌∷◌, refl, sym, ap, ◌∙◌, arith, find, AllByRecursion, nat_tests, Holder, Run, holder_of, IsBefore, AreOrdered, begins_after, is_from}
+use Rattle.interval_index.proofs.Common.{◌≡◌, ◌≢◌, ℕ, ◌<◌, ◌≤◌, ◌⊎◌, Bool, true, false, not, cond, ◌&&◌, ◌||◌, leb, Option, Some, None, List, [], ◌∷◌, refl, sym, ap, ◌∙◌, subst, arith, find, AllByRecursion, nat_tests, Holder, Run, RunContents, holder_of, IsBefore, AreOrdered, begins_after, is_from}
 use Rattle.std.proofs.Common.{ltb, eqb}
 use Rattle.std.specs.List.{filter}
 use Rattle.summary_tree.specs.Cuts.{IsCutBy, put_before, with_first, without_first}
@@ -208,3 +208,49 @@ none_has_here f h x xs false e n ih = (e, ih n)
 pub none_if_not_found : (f : ℕ) (h : Holder) (runs : List Run) → find (has_key f h) runs ≡ None → NoneHas f h runs
 none_if_not_found f h [] n = tt
 none_if_not_found f h (x ∷ xs) n = none_has_here f h x xs (has_key f h x) refl n (none_if_not_found f h xs)
+
+-- the runs of an index
+abbrev pub runs_of : RunContents → List Run
+runs_of contents = contents.runs
+
+-- some run has the first byte and the owner, and is the first from there on
+abbrev pub Held : ℕ → List Run → Holder → Type 0
+Held first runs holder = (held : Run) × (find (is_from first holder) runs ≡ Some held) × (has_key first holder held ≡ true)
+
+-- of the runs of an index, asked by an owner that is this run's
+module _ (run : Run) (inside runs new : List Run) (holder : Holder) (is : inside ≡ runs) (same : holder ≡ holder_of run) where
+  -- where none has its key, a put adds it
+  pub added : find (has_key run.span.first (holder_of run)) runs ≡ None → new ≡ put_before (is_from run.span.first holder) run inside
+      → new ≡ with_run run (without run.span.first (holder_of run) runs)
+  added none put =
+      put ∙ ap (λ (h : Holder). put_before (is_from run.span.first h) run inside) same
+      ∙ ap (with_run run) (is ∙ sym (none_left_out run.span.first (holder_of run) runs (none_if_not_found run.span.first (holder_of run) runs none)))
+
+  -- and where one has it, a replace puts it in that one's place
+  pub placed : AreOrdered runs → Held run.span.first runs holder → new ≡ with_first (is_from run.span.first holder) run inside
+      → new ≡ with_run run (without run.span.first (holder_of run) runs)
+  placed ordered held put =
+      let its = subst (Held run.span.first runs) same held in
+      put ∙ ap (λ (h : Holder). with_first (is_from run.span.first h) run inside) same
+      ∙ ap (with_first (is_from run.span.first (holder_of run)) run) is
+      ∙ in_place run runs its.0 ordered its.1 its.2
+
+-- a run that is held is found by its key
+pub held_found : (first : ℕ) (holder : Holder) (runs : List Run) → AreOrdered runs → Held first runs holder → find (has_key first holder) runs ≢ None
+held_found first holder runs ordered held none =
+    let there = it_is_there first holder runs held.0 ordered held.1 held.2 in
+    absurd (let no : None ≡ Some held.0 = sym none ∙ there.found in cc)
+
+held_here : (first : ℕ) (holder : Holder) (runs : List Run) (run : Run) (b : Bool) → AreOrdered runs → find (has_key first holder) runs ≢ None
+    → find (is_from first holder) runs ≡ Some run → has_key first holder run ≡ b → Held first runs holder
+held_here first holder runs run true ordered some found key = (run, found, key)
+held_here first holder runs run false ordered some found key = absurd (some (none_found first holder runs (other_there first holder runs run ordered found key)))
+
+held_at : (first : ℕ) (holder : Holder) (runs : List Run) (found : Option Run) → AreOrdered runs → find (has_key first holder) runs ≢ None
+    → find (is_from first holder) runs ≡ found → Held first runs holder
+held_at first holder runs None ordered some none = absurd (some (none_found first holder runs (nothing_there first holder runs none)))
+held_at first holder runs (Some run) ordered some found = held_here first holder runs run (has_key first holder run) ordered some found refl
+
+-- and one that is found by its key is held
+pub found_held : (first : ℕ) (holder : Holder) (runs : List Run) → AreOrdered runs → find (has_key first holder) runs ≢ None → Held first runs holder
+found_held first holder runs ordered some = held_at first holder runs (find (is_from first holder) runs) ordered some refl

@@ -1,10 +1,10 @@
 //! The runs in order.
-ghost use Rattle.std.specs.Prelude.{◌≡◌, ◌+◌, ◌<◌, ◌≤◌, ◌↔◌, ◌&&◌, true, IsTrue, IsFalse, IsOk, OnOk, OnErr, Some, None, IfSome, IfNone, Any, cond, [], length};
+ghost use Rattle.std.specs.Prelude.{◌≡◌, ◌≢◌, ◌+◌, ◌<◌, ◌≤◌, ◌↔◌, ◌&&◌, IsTrue, IsFalse, IsOk, OnOk, OnErr, Some, None, IfSome, IfNone, Any, cond, [], length};
 ghost use Rattle.std.specs.List.{find};
 ghost use Rattle.interval_index.specs.Holders.{holder_of, is_same_holder};
 ghost use Rattle.interval_index.specs.Runs.{Blocks};
 ghost use Rattle.interval_index.specs.Standing.{AreRunsOf, HolderConflict, HolderModes, IsFirstInTheWay, IsRunThere};
-ghost use Rattle.interval_index.specs.Tests.{beginning_by, blocks, has_key, is_after, is_from, without, with_run};
+ghost use Rattle.interval_index.specs.Tests.{beginning_by, blocks, has_key, is_after, without, with_run};
 
 use crate::keys::{After, Beyond, Key};
 use crate::queries::Reaching;
@@ -146,7 +146,7 @@ impl RunIndex {
 
     /// Whether a run has this first byte and this owner.
     fn has(&self, first: u64, holder: Holder) -> bool
-        ensures yes { IsTrue result → (run : Run) × (find (is_from first holder) self.now.runs ≡ Some run) × (has_key first holder run ≡ true) }
+        ensures yes { IsTrue result → find (has_key first holder) self.now.runs ≢ None }
         ensures no { IsFalse result → find (has_key first holder) self.now.runs ≡ None }
     {
         let Some(run) = self.runs.first_from(&Key { first, holder }) else {
@@ -167,22 +167,34 @@ impl RunIndex {
         self.runs.take(&Key { first, holder })
     }
 
-    /// Puts in a run, in place of one with its first byte and its owner, and uses up room for one at most. It takes no memory.
+    /// Puts in a run, in place of one with its first byte and its owner; where there is none it uses up room for one. It takes no
+    /// memory.
     pub fn put(&mut self, run: Run)
         requires range { run.span.first ≤ run.span.last }
         requires room { 0 < self.old.room }
         ensures runs { self.new.runs ≡ with_run run (without run.span.first (holder_of run) self.old.runs) }
-        ensures room { self.old.room ≤ self.new.room + 1 }
+        ensures replaced { find (has_key run.span.first (holder_of run)) self.old.runs ≢ None → self.new.room ≡ self.old.room }
+        ensures added { find (has_key run.span.first (holder_of run)) self.old.runs ≡ None → self.new.room + 1 ≡ self.old.room }
+    {
+        if self.has(run.span.first, run.holder()) {
+            self.replace(run);
+        } else {
+            self.add(run);
+        }
+    }
+
+    /// Puts a run in place of the one with its first byte and its owner; the room stays. It takes no memory.
+    pub fn replace(&mut self, run: Run)
+        requires range { run.span.first ≤ run.span.last }
+        requires held { find (has_key run.span.first (holder_of run)) self.old.runs ≢ None }
+        ensures runs { self.new.runs ≡ with_run run (without run.span.first (holder_of run) self.old.runs) }
+        ensures room { self.new.room ≡ self.old.room }
     {
         let key = Key {
             first: run.span.first,
             holder: run.holder(),
         };
-        if self.has(key.first, key.holder) {
-            self.runs.replace(&key, run);
-        } else {
-            self.add(run);
-        }
+        self.runs.replace(&key, run);
     }
 
     /// Puts in a run where none has its first byte and its owner, and uses up room for one. It takes no memory.

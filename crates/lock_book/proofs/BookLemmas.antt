@@ -1,5 +1,5 @@
 -- What a change of one owner's list, or of one description's place, means to the whole book: for each call that sets, reserves or releases.
-use Rattle.lock_book.proofs.Common.{common_steps, ℕ, ◌≡◌, ◌≢◌, ◌==◌, ◌∙◌, sym, ap, refl, subst, true, false, cond, Bool, arith, ◌≤◌, ◌+◌, Option, Some, None, Result, Ok, Err, inl, inr, List, if◌then◌else◌, is_some, nat_cmp, option_copied, option_copied_mut, get, Bor, nat_tests, cases_Bool, eqb-true, Mode, Span, OwnerRuns, modes_of, is_covered, Modes, IsByteRange, Owner, Book, is_same_owner, list_of, place_of, byte_modes_of, flock_modes_of, modes_in_list, IsIdle, PutsFor, mode_in_place, lookup, set_value}
+use Rattle.lock_book.proofs.Common.{common_steps, ℕ, ◌≡◌, ◌≢◌, ◌==◌, ◌∙◌, sym, ap, refl, subst, true, false, cond, Bool, arith, ◌≤◌, ◌+◌, Option, Some, None, Result, Ok, Err, inl, inr, List, if◌then◌else◌, is_some, nat_cmp, option_copied, option_copied_mut, get, Bor, cases_Bool, eqb-true, Mode, Span, OwnerRuns, modes_of, is_covered, Modes, IsByteRange, Owner, Book, is_same_owner, list_of, place_of, byte_modes_of, flock_modes_of, modes_in_list, IsIdle, PutsFor, mode_in_place, lookup, set_value}
 use Rattle.std.specs.Prelude.{◌||◌, OnOk, OnErr, OnSome}
 use Rattle.std.specs.Borrow.{MutBor}
 use Rattle.range_core.specs.Changes.{SetsMode}
@@ -8,6 +8,7 @@ use Rattle.lock_book.specs.Books.{room_in, has_flock_place, SameBook, SameButRoo
 use Rattle.lock_book.specs.OwnerLists.{room_in_list, EachList}
 use Rattle.lock_book.specs.declared.book.holders.FlockHolders.{FlockHolders}
 use Rattle.lock_book.specs.Holders.{place_among, PutsAmong}
+use Rattle.lock_book.proofs.LargestLemmas.{covers_by}
 use Rattle.lock_book.proofs.OwnerLemmas.{lookup-nat_cmp, same_owner, is_same_owner-self}
 use Rattle.lock_book.proofs.PutLemmas.{PutsFor-set}
 
@@ -169,10 +170,6 @@ pub still_in_use : (book : Book) (owner : Owner) (before list : OwnerRuns) → l
 unfolding list_of
 still_in_use book owner before list was modes room idle = grind (arith, common_steps)
 
--- the first byte of a range is in it
-covers_first : (span : Span) → IsByteRange span → is_covered span span.first ≡ true
-covers_first span range = grind (arith, nat_tests)
-
 -- one with room, or with a mode on some range, is in use
 pub in_use_by_room : (list : OwnerRuns) → 1 ≤ room_of list → ¬ IsIdle list
 in_use_by_room list room idle = let empty = idle.no_room in omega arith
@@ -181,7 +178,7 @@ pub in_use_by_mode : (old : Modes) (list : OwnerRuns) (span : Span) (mode : Opti
     → SetsMode old (modes_of list) span mode → ¬ IsIdle list
 in_use_by_mode old list span None range some sets idle = let h : false ≡ true = some in cc
 in_use_by_mode old list span (Some mode) range some sets idle =
-    let covered : is_covered span span.first ≡ true = covers_first span range in
+    let covered : is_covered span span.first ≡ true = covers_by span span.first (omega arith) range.0 in
     let there : modes_of list span.first ≡ Some mode = sets span.first ∙ ap (λ b. cond b (Some mode) (old span.first)) covered in
     let h : None ≡ Some mode = sym (idle.free span.first) ∙ there in
     cc

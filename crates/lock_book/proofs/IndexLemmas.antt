@@ -1,5 +1,5 @@
 -- What takes and puts leave of the runs that an index keeps: for `take_runs`, `put_runs` and others.
-use Rattle.lock_book.proofs.Common.{◌≡◌, ◌==◌, ℕ, ◌++◌, inl, inr, Bool, true, false, not, ◌&&◌, ◌||◌, cond, Option, Some, None, List, [], ◌∷◌, All, refl, sym, ap, ◌∙◌, subst, arith, list_any, cases_Bool, not-true, nat_tests, All-cons, All-head, All-tail, All-weaker, Mode, Span, IsRun, Holder, Run, holder_of, HolderModes, AreRunsWhere, is_listed}
+use Rattle.lock_book.proofs.Common.{◌≡◌, ◌≢◌, ◌==◌, ◌<◌, ℕ, ◌++◌, inl, inr, Bool, true, false, not, ◌&&◌, ◌||◌, cond, Option, Some, None, List, [], ◌∷◌, All, refl, sym, ap, ◌∙◌, subst, arith, list_any, cases_Bool, not-true, nat_tests, All-cons, All-head, All-tail, All-weaker, Mode, Span, IsRun, Holder, Run, holder_of, HolderModes, AreRunsWhere, is_listed}
 use Rattle.std.specs.List.{find}
 use Rattle.std.proofs.lemmas.Bool.{and_from, and_parts, and_right, or_left, or_right, or_cases, not_from_false}
 use Rattle.std.proofs.lemmas.List.Elements.{All-filter, filter_passes}
@@ -237,3 +237,23 @@ none_of_owner first holder (x ∷ xs) others =
     let apart = not-true _ (All-head (λ run. is_others holder run ≡ true) x xs others) in
     ap (λ b. cond b (Some x) (find (has_key first holder) xs)) (and_right (first == x.span.first) (is_same_holder holder (holder_of x)) apart)
     ∙ none_of_owner first holder xs (All-tail (λ run. is_others holder run ≡ true) x xs others)
+
+key_apart : (f k o a l b : ℕ) → a < f → is_key f k o a l b ≡ false
+key_apart f k o a l b before = grind (arith, nat_tests)
+
+-- a run that begins before all of these isn't listed among them
+pub unlisted : (holder : Holder) (run : Run) (list : List (Mode × Span)) → All (λ listed. run.span.first < listed.1.first) list → is_listed holder list run ≡ false
+unlisted holder run [] before = refl
+unlisted holder run (x ∷ xs) before =
+    ap (λ b. b || is_listed holder xs run)
+    (key_apart x.1.first holder.class holder.number run.span.first run.class run.number (All-head (λ (listed : Mode × Span). run.span.first < listed.1.first) x xs before))
+    ∙ unlisted holder run xs (All-tail (λ (listed : Mode × Span). run.span.first < listed.1.first) x xs before)
+
+found_here : (p : Run → Bool) (x : Run) (xs : List Run) (b : Bool) → (b || list_any p xs) ≡ true → (list_any p xs ≡ true → find p xs ≢ None) → cond b (Some x) (find p xs) ≢ None
+found_here p x xs true any later none = let e : Some x ≡ None = none in cc
+found_here p x xs false any later none = later any none
+
+-- where one passes one is found
+pub is_found : (p : Run → Bool) (runs : List Run) → list_any p runs ≡ true → find p runs ≢ None
+is_found p [] any none = let e : false ≡ true = any in cc
+is_found p (x ∷ xs) any none = found_here p x xs (p x) any (is_found p xs) none

@@ -17,6 +17,7 @@ use Rattle.lock_book.proofs.OwnerLemmas.{same_owner}
 use Rattle.lock_book.proofs.IndexLemmas.{AreRunsWhere-moves, AreRunsWhere-agrees, AreRunsWhere-puts, or-false}
 use Rattle.lock_book.proofs.LargestLemmas.{IsRun-apart, IsRun-same, list_run, only_begins, only_run, same_run}
 use Rattle.lock_book.proofs.ListLemmas.{All-at_Any}
+use Rattle.lock_book.proofs.TouchingLemmas.{touches_by}
 
 not_same : (a b : Bool) → not a ≡ not b → a ≡ b
 not_same true true h = refl
@@ -381,9 +382,6 @@ module _ (modes : ByteModes) (owner : Owner) (list : OwnerRuns) (same : (byte : 
         AreRunsWhere-agrees (holder_modes modes) (λ run. is_outside (as_holder owner) span run || is_listed (as_holder owner) listed run) (λ run. true) runs
         (others_or_listed modes owner listed each_own (touches span) touch touch_every) are
 
-touches-self : (span : Span) → span.first ≤ span.last → touches span span ≡ true
-touches-self span some = grind (arith, nat_tests)
-
 -- with the only run of an owner whose others are kept all runs are
 pub only_put : (modes : ByteModes) (owner : Owner) (mode : Mode) (span : Span) (runs new : List Run) (run : Run) → span.first ≤ span.last → HasJust (modes owner) mode span
     → run ≡ run_by owner mode span → new ≡ with_run run (without run.span.first (holder_of run) runs)
@@ -399,7 +397,7 @@ only_put modes owner mode span runs new run some just made is kept =
     (AreRunsWhere-agrees (holder_modes modes) (λ other. outside other || has_key span.first holder other) (λ other. true) (with_run (run_by owner mode span) (without span.first holder runs))
     (λ other is_other.
     others_or_listed modes owner (only ∷ []) (All-cons (λ r. IsRun (modes owner) r.1.first r.0 r.1) only [] its (All-nil (λ (r : Mode × Span). IsRun (modes owner) r.1.first r.0 r.1)))
-    (touches span) (All-cons (λ r. touches span r.1 ≡ true) only [] (touches-self span some) (All-nil (λ (r : Mode × Span). touches span r.1 ≡ true)))
+    (touches span) (All-cons (λ r. touches span r.1 ≡ true) only [] (touches_by span span (omega arith) (omega arith)) (All-nil (λ (r : Mode × Span). touches span r.1 ≡ true)))
     (λ m r is_run touch. or-false (span.first == r.first) ∙ eq-eqb span.first r.first (only_begins (modes owner) mode span some just m r is_run)) other is_other
     ∙ ap (λ b. outside other || b) (or-false (has_key span.first holder other))) put)
 
@@ -448,17 +446,19 @@ pub IfNone-anyhow : {A P : Type 0} (o : Option A) → P → IfNone o P
 IfNone-anyhow None holds = holds
 IfNone-anyhow (Some x) holds = tt
 
--- what is kept of an index is kept of it in its box
+-- what holds of an index holds of it in its box
+pub in_box : (P : List Run → Type 0) (left block : Box RunContents Global) → P left.value.runs → Some left ≡ Some block → P block.value.runs
+in_box P left block holds is = let same : left ≡ block = cc in subst (λ (b : Box RunContents Global). P b.value.runs) same holds
+
+-- so what is kept of it is
 pub kept_new : (modes : HolderModes) (passes : Run → Bool) (left block : Box RunContents Global) → AreRunsWhere modes passes left.value.runs
     → Some left ≡ Some block → AreRunsWhere modes passes block.value.runs
-kept_new modes passes left block are is =
-    let same : left ≡ block = cc in subst (λ (b : Box RunContents Global). AreRunsWhere modes passes b.value.runs) same are
+kept_new modes passes left block are is = in_box (AreRunsWhere modes passes) left block are is
 
 -- also but for one that is left
 pub kept_without : (modes : HolderModes) (passes : Run → Bool) (holder : Holder) (at : Option ℕ) (left block : Box RunContents Global)
     → AreRunsWhere modes passes (without_left holder at left.value.runs) → Some left ≡ Some block → AreRunsWhere modes passes (without_left holder at block.value.runs)
-kept_without modes passes holder at left block are is =
-    let same : left ≡ block = cc in subst (λ (b : Box RunContents Global). AreRunsWhere modes passes (without_left holder at b.value.runs)) same are
+kept_without modes passes holder at left block are is = in_box (λ (runs : List Run). AreRunsWhere modes passes (without_left holder at runs)) left block are is
 
 -- what is kept of it in its box is kept of it where it is lent
 pub kept_lent : (modes : HolderModes) (passes : Run → Bool) (block : Box RunContents Global) (lent : RunContents) → lent ≡ block.value

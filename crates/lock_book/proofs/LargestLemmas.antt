@@ -149,7 +149,8 @@ list_run stand list byte mode at =
     let end = ends runs.0 in
     run_round (modes_of list) mode end.0 (λ b far. runs.1 b ∙ end.1 b far) byte at
 
-covers_by : (span : Span) (byte : ℕ) → span.first ≤ byte → byte ≤ span.last → is_covered span byte ≡ true
+-- a byte of the range passes its test
+pub covers_by : (span : Span) (byte : ℕ) → span.first ≤ byte → byte ≤ span.last → is_covered span byte ≡ true
 covers_by span byte from upto = grind (arith, nat_tests)
 
 -- of modes that are one on a range alone

@@ -18,7 +18,7 @@ contains_cons y ys x there = grind (arith, common_steps, Contains-append_cases, 
 contains_head : {X : Type 0} (y : X) (ys : List X) → Contains (y ∷ ys) y
 contains_head y ys = Contains-get_or (y ∷ ys) 0 y (omega arith)
 
-pairs_head : {X : Type 0} (R : X → X → Type 0) (y : X) (ys : List X) → AllPairs R (y ∷ ys) → All (R y) ys
+pub pairs_head : {X : Type 0} (R : X → X → Type 0) (y : X) (ys : List X) → AllPairs R (y ∷ ys) → All (R y) ys
 pairs_head R y ys pairs k d within = pairs 0 (suc k) d (omega arith) (omega arith)
 
 pairs_tail : {X : Type 0} (R : X → X → Type 0) (y : X) (ys : List X) → AllPairs R (y ∷ ys) → AllPairs R ys

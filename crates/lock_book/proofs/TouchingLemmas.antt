@@ -4,7 +4,8 @@ use Rattle.std.proofs.lemmas.List.Folds.{list_any_at}
 use Rattle.range_core.specs.Replacing.{Touches}
 use Rattle.owner_runs.specs.Trees.{AreRunsTouching}
 
-touches_by : (span run : Span) → run.first ≤ span.last + 1 → span.first ≤ run.last + 1 → touches span run ≡ true
+-- a run that begins and ends so touches the range
+pub touches_by : (span run : Span) → run.first ≤ span.last + 1 → span.first ≤ run.last + 1 → touches span run ≡ true
 touches_by span run begins ends = grind (arith, nat_tests)
 
 touches_parts : (span run : Span) → touches span run ≡ true → (span.first ≤ run.last + 1) × (run.first ≤ span.last + 1)

@@ -1,7 +1,7 @@
 -- What an index keeps of the byte locks on one file (the words are this project's choice).
-use Rattle.std.specs.Prelude.{ℕ, ◌≡◌, ◌+◌, ◌==◌, ◌&&◌, Bool, true, not, if◌then◌else◌, Option, Some, None, List, All}
+use Rattle.std.specs.Prelude.{ℕ, ◌≡◌, ◌≢◌, ◌+◌, ◌==◌, ◌&&◌, Bool, true, not, if◌then◌else◌, Option, Some, None, IfSome, List, All}
 use Rattle.std.specs.Bool.{nat_le}
-use Rattle.std.specs.List.{list_any}
+use Rattle.std.specs.List.{find, list_any}
 use Rattle.std.specs.Map.{lookup}
 use Rattle.std.specs.declared.alloc.Global.{Global}
 use Rattle.std.specs.declared.boxed.Box.{Box}
@@ -86,6 +86,11 @@ abbrev pub IsKeptOutside : OwnersIndex → ByteModes → Owner → Span → Opti
 IsKeptOutside index modes owner span left =
     (block : Box RunContents Global) → index.runs ≡ Some block
     → AreRunsWhere (holder_modes modes) (is_outside (as_holder owner) span) (without_left (as_holder owner) left block.value.runs)
+
+-- where a byte is told, a run of the owner's that begins there is left in it
+abbrev pub IsLeftIn : OwnersIndex → Owner → Option ℕ → Type 0
+IsLeftIn index owner left =
+    (block : Box RunContents Global) → index.runs ≡ Some block → IfSome left (λ byte. find (has_key byte (as_holder owner)) block.value.runs ≢ None)
 
 -- it keeps those of the other owners
 abbrev pub IsKeptWithout : OwnersIndex → ByteModes → Owner → Type 0

@@ -1,7 +1,6 @@
 //! Setting, reserving and releasing byte locks.
-ghost use Rattle.std.specs.Prelude.{ℕ, ◌≡◌, ◌≤◌, ◌+◌, ◌↔◌, None, IsTrue, IsOk, OnOk, OnErr};
-ghost use Rattle.range_core.specs.Ranges.{Covers, IsByteRange, SplitsRun};
-ghost use Rattle.owner_runs.specs.Lists.{modes_of};
+ghost use Rattle.std.specs.Prelude.{◌≡◌, ◌≤◌, ◌+◌, ◌↔◌, None, IsTrue, IsOk, OnOk, OnErr};
+ghost use Rattle.range_core.specs.Ranges.{IsByteRange, SplitsRun};
 ghost use Rattle.lock_book.specs.OwnerLists.{IsIdle};
 ghost use Rattle.lock_book.specs.Books.{byte_modes_of, room_in, ClearsOwner, ReleasesOwner, SameBook, SameButRoom, SetsOwnerMode};
 
@@ -25,8 +24,8 @@ impl Book {
         self.index.prepare_set(self.alloc, &self.owners, mode);
         match self.owners.get_mut(owner) {
             Some(list) => {
-                // A lock that is set again changes nothing: its runs stay in the index.
-                if has_already(list, span, mode) {
+                // A lock that is set again changes nothing.
+                if self.index.stays(list, span, mode) {
                     return Ok(());
                 }
                 let left = self.index.take_out(owner, list, span);
@@ -135,17 +134,6 @@ impl Book {
             }
             None => {}
         }
-    }
-}
-
-/// Whether the list has the mode on each byte of the span already; of an unlock it isn't said.
-fn has_already(list: &OwnerRuns, span: Span, mode: Option<Mode>) -> bool
-    requires { IsByteRange span }
-    ensures { IsTrue result → (byte : ℕ) → Covers span byte → modes_of list.now byte ≡ mode }
-{
-    match (mode, list.run_at(span.first)) {
-        (Some(mode), Some((held, run))) => held == mode && span.last <= run.last,
-        _ => false,
     }
 }
 

@@ -1,14 +1,15 @@
 //! The runs of all owners of a file together, where there are many owners.
-ghost use Rattle.std.specs.Prelude.{ℕ, ◌≡◌, ◌&&◌, ◌||◌, Bool, true, not, IsTrue, IfSome, None, List, All};
+ghost use Rattle.std.specs.Prelude.{ℕ, ◌≡◌, ◌≢◌, ◌&&◌, ◌||◌, Bool, true, not, IsTrue, IfSome, None, List, All};
+ghost use Rattle.std.specs.List.{find};
 ghost use Rattle.owner_runs.specs.declared.owner_runs.OwnerRuns.{OwnerRuns};
-ghost use Rattle.range_core.specs.Ranges.{IsByteRange, IsRun};
+ghost use Rattle.range_core.specs.Ranges.{Covers, IsByteRange, IsRun};
 ghost use Rattle.owner_runs.specs.Lists.{modes_of};
 ghost use Rattle.interval_index.specs.declared.Run.{Run};
 ghost use Rattle.interval_index.specs.Standing.{AreRunsOf, HolderModes};
-ghost use Rattle.interval_index.specs.Tests.{with_run, without};
+ghost use Rattle.interval_index.specs.Tests.{has_key, with_run, without};
 ghost use Rattle.lock_book.specs.declared.Owner.{Owner};
 ghost use Rattle.lock_book.specs.Conflicts.{ByteModes};
-ghost use Rattle.lock_book.specs.Indexing.{AreIndexed, AreRunsWhere, HasJust, HasNoneOf, IsKeptAs, IsKeptOutside, IsKeptWithout, as_holder, holder_modes, is_listed, modes_among, run_by, without_left};
+ghost use Rattle.lock_book.specs.Indexing.{AreIndexed, AreRunsWhere, HasJust, HasNoneOf, IsKeptAs, IsKeptOutside, IsKeptWithout, IsLeftIn, as_holder, holder_modes, is_listed, modes_among, run_by, without_left};
 
 use super::lists::OwnerLists;
 use crate::Owner;
@@ -91,12 +92,22 @@ impl OwnersIndex {
             || owners.has_more_than(FEW_OWNERS)
     }
 
+    /// Whether there is an index, of which a set leaves all runs as they are, since the list has the mode on each byte of the span already.
+    pub fn stays(&self, list: &OwnerRuns, span: Span, mode: Option<Mode>) -> bool
+        requires { IsByteRange span }
+        ensures { IsTrue result → (byte : ℕ) → Covers span byte → modes_of list.now byte ≡ mode }
+    {
+        self.runs.is_some() && list.has_already(span, mode)
+    }
+
     /// Takes out the runs of the owner that share a byte with the span or lie right beside it, but for the first, where another
     /// may be put in its place ([`OwnersIndex::put_in`]): its first byte is told. It takes no memory.
     pub fn take_out(&mut self, owner: Owner, list: &OwnerRuns, span: Span) -> Option<u64>
         requires { IsByteRange span }
-        ensures { (modes : ByteModes) → ((byte : ℕ) → modes owner byte ≡ modes_of list.now byte) → IsKeptAs self.old modes
+        ensures kept { (modes : ByteModes) → ((byte : ℕ) → modes owner byte ≡ modes_of list.now byte) → IsKeptAs self.old modes
             → IsKeptOutside self.new modes owner span result }
+        ensures left { (modes : ByteModes) → ((byte : ℕ) → modes owner byte ≡ modes_of list.now byte) → IsKeptAs self.old modes
+            → IsLeftIn self.new owner result }
     {
         let Some(index) = &mut self.runs else {
             return None;
@@ -122,7 +133,8 @@ impl OwnersIndex {
     /// Puts in the runs of the owner that share a byte with the span or lie right beside it, in room that is held; without
     /// that room there is no index any more. One that was left there goes. It takes no memory.
     pub fn put_in(&mut self, owner: Owner, list: &OwnerRuns, span: Span, left: Option<u64>)
-        requires { IsByteRange span }
+        requires span { IsByteRange span }
+        requires left { IsLeftIn self.old owner left }
         ensures { (modes : ByteModes) → ((byte : ℕ) → modes owner byte ≡ modes_of list.now byte) → IsKeptOutside self.old modes owner span left
             → IsKeptAs self.new modes }
     {
@@ -132,11 +144,10 @@ impl OwnersIndex {
         let index = index.as_mut();
         let mut runs = list.touching(span);
         let Some((mode, first)) = runs.next() else {
-            take_left(index, owner, left, None);
+            take_left(index, owner, left);
             return;
         };
-        take_left(index, owner, left, Some(first.first));
-        if !put_run(index, owner, mode, first) || !put_runs(index, owner, runs) {
+        if !put_first(index, owner, mode, first, left) || !put_runs(index, owner, runs) {
             self.runs = None;
         }
     }
@@ -160,16 +171,29 @@ impl OwnersIndex {
     }
 }
 
-/// Takes out the run of the owner that was left at a byte, unless another one is to be put in its place.
-fn take_left(index: &mut RunIndex, owner: Owner, left: Option<u64>, next: Option<u64>)
-    ensures { without_left (as_holder owner) next index.new.runs ≡ without_left (as_holder owner) next (without_left (as_holder owner) left index.old.runs) }
+/// Takes out the run of the owner that was left at a byte, if one was.
+fn take_left(index: &mut RunIndex, owner: Owner, left: Option<u64>)
+    ensures { index.new.runs ≡ without_left (as_holder owner) left index.old.runs }
 {
-    match left {
-        Some(byte) if next != left => {
-            index.take(byte, holder(owner));
-        }
-        _ => {}
+    if let Some(byte) = left {
+        index.take(byte, holder(owner));
     }
+}
+
+/// Puts in this run of the owner, in the place of the one that was left where that begins there too, or else in room that is held,
+/// and tells whether there was room.
+fn put_first(index: &mut RunIndex, owner: Owner, mode: Mode, span: Span, left: Option<u64>) -> bool
+    requires span { IsByteRange span }
+    requires left { IfSome left (λ byte. find (has_key byte (as_holder owner)) index.old.runs ≢ None) }
+    ensures { IsTrue result → index.new.runs
+        ≡ with_run (run_by owner mode span) (without span.first (as_holder owner) (without_left (as_holder owner) left index.old.runs)) }
+{
+    if left == Some(span.first) {
+        index.replace(run_of(owner, mode, span));
+        return true;
+    }
+    take_left(index, owner, left);
+    put_run(index, owner, mode, span)
 }
 
 /// Takes out the runs of the owner that begin where these do.

@@ -1,9 +1,7 @@
-use Rattle.interval_index.proofs.Common.{List, sym, ap, ◌∙◌, find, Run, RunContents, beginning_by, blocks, reaches_lock}
+use Rattle.interval_index.proofs.Common.{sym, ap, ◌∙◌, find, beginning_by, blocks, reaches_lock}
 use Rattle.interval_index.proofs.Blocking.{first_within}
+use Rattle.interval_index.proofs.Order.{runs_of}
 use Rattle.interval_index.proofs.index.RunIndex.first.Goals as goal
-
-abbrev runs_of : RunContents → List Run
-runs_of contents = contents.runs
 
 pub returns : goal.returns
 returns c =

@@ -1,9 +1,6 @@
-use Rattle.interval_index.proofs.Common.{◌≡◌, None, Some, List, sym, ap, ◌∙◌, subst, find, Run, RunContents, AreOrdered, is_from}
-use Rattle.interval_index.proofs.Order.{cut_at, none_found, nothing_there, other_there}
+use Rattle.interval_index.proofs.Common.{◌≡◌, None, Some, sym, ap, ◌∙◌, subst, find, AreOrdered, is_from}
+use Rattle.interval_index.proofs.Order.{cut_at, held_found, none_found, nothing_there, other_there, runs_of}
 use Rattle.interval_index.proofs.index.RunIndex.has.Goals as goal
-
-abbrev runs_of : RunContents → List Run
-runs_of contents = contents.runs
 
 pub first_from-requires : goal.first_from-requires
 first_from-requires c = cut_at c.args.first c.args.holder c.self.inside.runs.items c.self.invariant
@@ -18,7 +15,7 @@ pub returns-clause-yes : goal.returns-clause-yes
 returns-clause-yes c is_so =
     let found : find (is_from c.args.first c.args.holder) c.args.self.now.runs ≡ Some c.in-Some.run' =
     ap (find (is_from c.args.first c.args.holder)) (sym (ap runs_of c.self.view_is)) ∙ (sym c.first_from.ensures ∙ c.in-Some.is) in
-    (c.in-Some.run', found, sym c.has_key.ensures ∙ is_so)
+    held_found c.args.first c.args.holder c.args.self.now.runs (subst AreOrdered (ap runs_of c.self.view_is) c.self.invariant) (c.in-Some.run', found, sym c.has_key.ensures ∙ is_so)
 
 pub returns-clause-no : goal.returns-clause-no
 returns-clause-no c isnt =

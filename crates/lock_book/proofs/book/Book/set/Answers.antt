@@ -1,10 +1,20 @@
-use Rattle.lock_book.proofs.Common.{common_steps, ◌≡◌, ◌∙◌, ap, sym, subst, true, refl, Some, None, Option, arith, if◌then◌else◌, Mode, is_covered, modes_of, OwnerRuns, modes_in_list, byte_modes_of}
+use Rattle.lock_book.proofs.Common.{common_steps, ◌≡◌, ◌∙◌, ap, sym, subst, true, refl, Some, None, Option, arith, if◌then◌else◌, Mode, is_covered, modes_of, OwnerRuns, modes_in_list, byte_modes_of, modes_among}
 use Rattle.range_core.specs.Changes.{SetsMode}
 use Rattle.range_core.specs.Ranges.{SplitsRun}
-use Rattle.lock_book.proofs.BookLemmas.{room_kept, list_of-not_lent, list_written, PutsAt-adds, PutsAt-removes, PutsList-puts, SetsOwnerMode-puts, SameBook-puts, in_use_by_mode, still_in_use}
-use Rattle.lock_book.proofs.KeptLemmas.{AreKept-left, AreKept-list, AreKept-removed, already_set, indexed_added, indexed_set, indexed_again, kept_same, none_kept}
+use Rattle.lock_book.proofs.BookLemmas.{room_kept, list_of-lent, list_of-not_lent, list_written, PutsAt-adds, PutsAt-removes, PutsList-puts, SetsOwnerMode-puts, SameBook-puts, in_use_by_mode, still_in_use}
+use Rattle.lock_book.proofs.KeptLemmas.{AreKept-left, AreKept-list, AreKept-removed, already_set, indexed_added, indexed_set, indexed_again, kept_same, modes_was, none_kept}
 use Rattle.std.proofs.lemmas.Bool.{false≢true}
 use Rattle.lock_book.proofs.book.Book.set.Goals as goal
+
+pub put_in-requires-clause-left : goal.put_in-requires-clause-left
+put_in-requires-clause-left c =
+    c.take_out-left.ensures.left (modes_among c.args.self.now.owners)
+    (modes_was c.args.self.now c.args.owner (Some c.in-Some.list.now) (list_of-lent _ _ _ _ c.get_mut.ensures.value c.in-Some.is)) c.prepare_set.ensures
+
+pub put_in-requires-in-Some-clause-left : goal.put_in-requires-in-Some-clause-left
+put_in-requires-in-Some-clause-left c =
+    c.take_out-left.ensures.left (modes_among c.args.self.now.owners)
+    (modes_was c.args.self.now c.args.owner (Some c.in-Some.list.now) (list_of-lent _ _ _ _ c.get_mut.ensures.value c.in-Some.is)) c.prepare_set.ensures
 
 pub invariant_of-self-in-Err : goal.invariant_of-self-in-Err
 invariant_of-self-in-Err c =
@@ -16,7 +26,7 @@ invariant_of-self-in-Err c =
     let kept = AreKept-list c.put_in.new.self book owners c.args.owner list written.1
     (still_in_use book c.args.owner c.in-Some.list.now list written.0 same.modes (let room = same.room in omega arith))
     (indexed_again book owners c.args.owner (Some list) written.1 c.prepare_set.new.self c.take_out-left.new.self c.prepare_set.ensures c.take_out-left.result c.in-Some.list.now list c.put_in.new.self c.args.span
-    written.0 (λ byte. refl) same.modes c.take_out-left.ensures c.put_in.ensures) in
+    written.0 (λ byte. refl) same.modes c.take_out-left.ensures.kept c.put_in.ensures) in
     record { in_use = kept.in_use; indexed = kept.indexed }
 
 pub returns-in-Err-clause-err : goal.returns-in-Err-clause-err
@@ -38,7 +48,7 @@ invariant_of-self-then-is_idle c =
     let idle = c.is_idle.ensures.0 c.if-is_idle.true in
     let kept = AreKept-removed c.put_in-in-Some.new.self book c.remove.new.self c.args.owner puts
     (indexed_set book c.remove.new.self c.args.owner None puts c.prepare_set.new.self c.take_out-left.new.self c.prepare_set.ensures c.take_out-left.result c.in-Some.list.now list c.put_in-in-Some.new.self c.args.span c.args.mode
-    written.0 (λ byte. sym (idle.free byte)) c.in_default.ensures.ok c.take_out-left.ensures c.put_in-in-Some.ensures) in
+    written.0 (λ byte. sym (idle.free byte)) c.in_default.ensures.ok c.take_out-left.ensures.kept c.put_in-in-Some.ensures) in
     record { in_use = kept.in_use; indexed = kept.indexed }
 
 pub invariant_of-self-else-is_idle : goal.invariant_of-self-else-is_idle
@@ -50,7 +60,7 @@ invariant_of-self-else-is_idle c =
     let kept = AreKept-list c.put_in-in-Some.new.self book owners c.args.owner list written.1
     (λ idle. let yes : c.is_idle.result ≡ true = c.is_idle.ensures.1 idle in let no = c.if-is_idle.false in cc)
     (indexed_set book owners c.args.owner (Some list) written.1 c.prepare_set.new.self c.take_out-left.new.self c.prepare_set.ensures c.take_out-left.result c.in-Some.list.now list c.put_in-in-Some.new.self c.args.span c.args.mode
-    written.0 (λ byte. refl) c.in_default.ensures.ok c.take_out-left.ensures c.put_in-in-Some.ensures) in
+    written.0 (λ byte. refl) c.in_default.ensures.ok c.take_out-left.ensures.kept c.put_in-in-Some.ensures) in
     record { in_use = kept.in_use; indexed = kept.indexed }
 
 pub returns-then-is_idle-clause-ok : goal.returns-then-is_idle-clause-ok
@@ -134,17 +144,17 @@ invariant_of-self c =
     (kept_same book owners c.args.owner (Some list) written.1 c.prepare_set.new.self (Some list) written.0 (λ byte. refl) c.prepare_set.ensures) in
     record { in_use = kept.in_use; indexed = kept.indexed }
 
-pub returns-then-has_already-clause-ok : goal.returns-then-has_already-clause-ok
-returns-then-has_already-clause-ok c =
+pub returns-then-stays-clause-ok : goal.returns-then-stays-clause-ok
+returns-then-stays-clause-ok c =
     let book = c.args.self.now in
     let list = c.in-Some.list.now in
     let owners = c.get_mut.follows.lender list in
     let written = list_written book owners c.args.owner _ _ list c.get_mut.ensures.value c.in-Some.is (c.get_mut.follows.holds list) in
     SetsOwnerMode-puts book _ c.args.owner (Some list) (Some list) _ _ (PutsList-puts book _ _ _ refl written.1) written.0
-    (already_set (modes_of list) c.args.span c.args.mode (c.has_already.ensures c.if-has_already.true))
+    (already_set (modes_of list) c.args.span c.args.mode (c.stays.ensures c.if-stays.true))
 
-pub returns-then-has_already-clause-room : goal.returns-then-has_already-clause-room
-returns-then-has_already-clause-room c =
+pub returns-then-stays-clause-room : goal.returns-then-stays-clause-room
+returns-then-stays-clause-room c =
     let book = c.args.self.now in
     let list = c.in-Some.list.now in
     let owners = c.get_mut.follows.lender list in

@@ -1,6 +1,6 @@
-use Rattle.lock_book.proofs.Common.{◌≡◌, ◌∙◌, sym, true, refl, Some, None, arith, list_of}
+use Rattle.lock_book.proofs.Common.{◌≡◌, ◌∙◌, sym, true, refl, Some, None, arith, list_of, modes_among}
 use Rattle.lock_book.proofs.BookLemmas.{list_of-lent, list_written, PutsAt-removes, PutsList-puts, SetsOwnerMode-puts, room_in-list, room_left}
-use Rattle.lock_book.proofs.KeptLemmas.{AreKept-list, AreKept-removed, indexed_set}
+use Rattle.lock_book.proofs.KeptLemmas.{AreKept-list, AreKept-removed, indexed_set, modes_was}
 use Rattle.lock_book.proofs.book.Book.set_reserved.Goals as goal
 
 pub set_reserved-requires-clause-room : goal.set_reserved-requires-clause-room
@@ -8,6 +8,11 @@ set_reserved-requires-clause-room c =
     let was : list_of c.args.self.now c.args.owner ≡ Some c.unwrap-list.result.now =
     list_of-lent _ _ _ _ c.get_mut.ensures.value c.unwrap-list.ensures in
     rw (room_in-list _ _ _ was) at c.requires.room
+
+pub put_in-requires-clause-left : goal.put_in-requires-clause-left
+put_in-requires-clause-left c =
+    c.take_out-left.ensures.left (modes_among c.args.self.now.owners)
+    (modes_was c.args.self.now c.args.owner (Some c.unwrap-list.result.now) (list_of-lent _ _ _ _ c.get_mut.ensures.value c.unwrap-list.ensures)) c.args.self.now.indexed
 
 pub invariant_of-self : goal.invariant_of-self
 invariant_of-self c =
@@ -19,7 +24,7 @@ invariant_of-self c =
     let idle = c.is_idle.ensures.0 c.if-is_idle.true in
     let kept = AreKept-removed c.put_in.new.self book c.remove.new.self c.args.owner puts
     (indexed_set book c.remove.new.self c.args.owner None puts book.index c.take_out-left.new.self book.indexed c.take_out-left.result c.unwrap-list.result.now list c.put_in.new.self c.args.span c.args.mode
-    written.0 (λ byte. sym (idle.free byte)) c.set_reserved.ensures.modes c.take_out-left.ensures c.put_in.ensures) in
+    written.0 (λ byte. sym (idle.free byte)) c.set_reserved.ensures.modes c.take_out-left.ensures.kept c.put_in.ensures) in
     record { in_use = kept.in_use; indexed = kept.indexed }
 
 pub invariant_of-self-else-is_idle : goal.invariant_of-self-else-is_idle
@@ -31,7 +36,7 @@ invariant_of-self-else-is_idle c =
     let kept = AreKept-list c.put_in.new.self book owners c.args.owner list written.1
     (λ idle. let yes : c.is_idle.result ≡ true = c.is_idle.ensures.1 idle in let no = c.if-is_idle.false in cc)
     (indexed_set book owners c.args.owner (Some list) written.1 book.index c.take_out-left.new.self book.indexed c.take_out-left.result c.unwrap-list.result.now list c.put_in.new.self c.args.span c.args.mode
-    written.0 (λ byte. refl) c.set_reserved.ensures.modes c.take_out-left.ensures c.put_in.ensures) in
+    written.0 (λ byte. refl) c.set_reserved.ensures.modes c.take_out-left.ensures.kept c.put_in.ensures) in
     record { in_use = kept.in_use; indexed = kept.indexed }
 
 pub returns-then-is_idle-clause-sets : goal.returns-then-is_idle-clause-sets

@@ -1,17 +1,24 @@
-use Rattle.lock_book.proofs.Common.{◌||◌, true, sym, ap, ◌∙◌, subst, List, All, All-head, All-tail, with_value, Mode, Span, IsRun, Run, modes_of, AreRunsWhere, as_holder, holder_modes, is_listed, is_outside}
+use Rattle.lock_book.proofs.Common.{◌≢◌, ◌||◌, true, None, sym, subst, List, All, All-head, All-tail, with_value, Mode, Span, IsRun, Run, modes_of, AreRunsWhere, as_holder, holder_modes, is_listed, is_outside}
+use Rattle.std.specs.Prelude.{IfSome}
+use Rattle.std.specs.List.{find}
 use Rattle.range_core.specs.Ranges.{IsByteRange}
 use Rattle.interval_index.specs.Contents.{RunContents}
-use Rattle.interval_index.specs.Tests.{has_key, with_run}
+use Rattle.interval_index.specs.Tests.{has_key}
 use Rattle.lock_book.specs.Indexing.{run_by, without_left}
 use Rattle.lock_book.proofs.IndexLemmas.{AreRunsWhere-puts, puts_first, puts_none}
 use Rattle.lock_book.proofs.IndexedLemmas.{all_put, each_held, kept_new}
 use Rattle.lock_book.proofs.TouchingLemmas.{all_touch, each_touching}
 use Rattle.lock_book.proofs.book.index.OwnersIndex.put_in.Goals as goal
 
-pub put_run-requires : goal.put_run-requires
-put_run-requires c =
+pub put_first-requires-clause-span : goal.put_first-requires-clause-span
+put_first-requires-clause-span c =
     All-head (λ run. IsByteRange run.1) (c.in-Some-next.mode, c.in-Some-next.first) c.next.new.self
     (subst (All (λ run. IsByteRange run.1)) c.in-Some-next.ensures.steps c.touching-runs.ensures.ranges)
+
+pub put_first-requires-clause-left : goal.put_first-requires-clause-left
+put_first-requires-clause-left c =
+    subst (λ (contents : RunContents). IfSome c.args.left (λ byte. find (has_key byte (as_holder c.args.owner)) contents.runs ≢ None)) (sym c.as_mut-index.ensures.value)
+    (c.requires.left c.in-Some.index c.in-Some.is)
 
 pub put_runs-requires : goal.put_runs-requires
 put_runs-requires c =
@@ -45,7 +52,7 @@ returns-else-not-put_runs c modes same kept block is =
     (each_held modes c.args.owner c.args.list.now same c.touching-runs.result c.touching-runs.ensures.runs.each) in
     let left = without_left holder c.args.left c.as_mut-index.result.now.runs in
     let was = subst (λ (contents : RunContents). AreRunsWhere all outside (without_left holder c.args.left contents.runs)) (sym c.as_mut-index.ensures.value) (kept c.in-Some.index c.in-Some.is) in
-    let put = c.put_run.ensures c.if-not-put_run.false ∙ ap (with_run run) c.take_left-2.ensures in
+    let put = c.put_first.ensures c.if-not-put_first.false in
     let now = subst (λ (runs : List Run). AreRunsWhere all (λ other. outside other || has_key first.1.first holder other) runs) (sym put)
     (AreRunsWhere-puts all outside run left (All-head (λ listed. IsRun (all holder) listed.1.first listed.0 listed.1) first rest each) was) in
     let more = c.put_runs.ensures c.if-not-put_runs.false all (λ other. outside other || has_key first.1.first holder other)
