@@ -3,9 +3,6 @@ use denote.RattleType.{RattleType}
 use denote.Hole.{as_row}
 use denote.Param.Send.{view_send, IsSend}
 use denote.Param.SendFields.{as_row_send, declared_send}
-use denote.Struct.Field.{row_field}
-use denote.Struct.Tuple.{Tuple, tuple_type}
-use Rattle.std.proofs.Common.{[], ◌∷◌}
 use Rattle.std.proofs.Crossing.{send, Vec-send}
 use Rattle.std.proofs.MapsCrossing.{BTreeMap-send}
 use Rattle.std.specs.declared.cmp.Ord as ord
@@ -22,11 +19,8 @@ module _ (K V : RattleType) (o : ord.Ghosts K.Denot) (e : eq.Ghosts K.Denot) (p 
   abbrev block_row : RattleType
   block_row = block.the_row K V o e p
 
-  entry_send : IsSend (Tuple (K ∷ V ∷ []))
-  entry_send = declared_send (tuple_type (K ∷ V ∷ [])) (as_row_send (row_field K) send-K, (as_row_send (row_field V) send-V, tt))
-
   block_send : IsSend block_row
-  block_send = search (view_send, declared_send, as_row_send, Vec-send, entry_send, tt) depth 20
+  block_send = search (view_send, declared_send, as_row_send, Vec-send, tt) depth 20
 
   others_send : IsSend (as_row (BTreeMap.the_field K block_row Global.the_row o e p ghosts))
   others_send =

@@ -3,7 +3,7 @@ use Rattle.std.proofs.Common.{◌≡◌, ℕ, ◌<◌, ◌≤◌, zero, suc, tru
 use native.Mathlib.Omega.{arith}
 use Rattle.std.specs.List.{AllByRecursion, AllWithin, HoldsAt, insert, remove}
 use Rattle.std.specs.List.Sorted.{IsBinarySearchResult, IsNonDecreasingBy, IsSearchInRange}
-use Rattle.std.specs.Map.{lookup, remove_entry, set_value}
+use Rattle.std.specs.Map.{keys_of, lookup, remove_entry, set_value}
 use Rattle.std.specs.BTreeMap.{insert_entry, is_at}
 use Rattle.std.specs.Cmp.{IsTotalOrder, alike_right}
 use Rattle.std.specs.Ordering.{is_eq, match_ordering, ordering_index, ordering_reverse}
@@ -20,10 +20,19 @@ all_at P [] place d all below = absurd (omega (arith, below))
 all_at P (x ∷ xs) zero d all below = all.0
 all_at P (x ∷ xs) (suc place) d all below = all_at P xs place d all.1 (omega (arith, below))
 
--- and the other way round
-pub all_from : {T : Type 0} (P : T → Type 0) (xs : List T) → ((place : ℕ) (d : T) → place < length xs → P (slice_index_or xs place d)) → AllByRecursion P xs
-all_from P [] at = tt
-all_from P (x ∷ xs) at = (at 0 x (omega arith), all_from P xs (λ place d below. at (suc place) d (omega (arith, below))))
+module _ {K X : Type 0} where
+  -- what holds of all keys holds of the one at a place
+  key_at : (P : K → Type 0) (es : List (K × X)) (place : ℕ) (d : K) → AllByRecursion (λ e. P e.0) es → place < length (keys_of es)
+      → P (slice_index_or (keys_of es) place d)
+  key_at P [] place d all below = absurd (omega (arith, below))
+  key_at P (e ∷ es) zero d all below = all.0
+  key_at P (e ∷ es) (suc place) d all below = key_at P es place d all.1 (omega (arith, below))
+
+  -- and the other way round
+  all_keys : (P : K → Type 0) (es : List (K × X)) → ((place : ℕ) (d : K) → place < length (keys_of es) → P (slice_index_or (keys_of es) place d))
+      → AllByRecursion (λ e. P e.0) es
+  all_keys P [] at = tt
+  all_keys P (e ∷ es) at = (at 0 e.0 (omega arith), all_keys P es (λ place d below. at (suc place) d (omega (arith, below))))
 
 module _ {K : Type 0} {cmp : K → K → Ordering} (o : IsTotalOrder cmp) where
   equal_back : (a b : K) → cmp a b ≡ Equal → cmp b a ≡ Equal
@@ -48,37 +57,38 @@ module _ {K : Type 0} {cmp : K → K → Ordering} (o : IsTotalOrder cmp) where
 
 module _ {K X : Type 0} {cmp : K → K → Ordering} (o : IsTotalOrder cmp) where
   -- along rising keys the comparisons rise
-  pub comparisons_rise : (key : K) (es : List (K × X)) → AreRising cmp es → IsNonDecreasingBy (λ e. ordering_index (cmp e.0 key)) es
+  comparisons_rise : (key : K) (es : List (K × X)) → AreRising cmp es → IsNonDecreasingBy (λ k. ordering_index (cmp k key)) (keys_of es)
   comparisons_rise key [] rising i j d upto below = absurd (omega (arith, below))
   comparisons_rise key (e ∷ es) rising zero zero d upto below = omega arith
   comparisons_rise key (e ∷ es) rising zero (suc j) d upto below =
-      rises_at o e.0 (slice_index_or es j d).0 key (cmp (slice_index_or es j d).0 key) refl (all_at (λ f. cmp e.0 f.0 ≡ Less) es j d rising.0 (omega (arith, below)))
+      rises_at o e.0 (slice_index_or (keys_of es) j d) key (cmp (slice_index_or (keys_of es) j d) key) refl (key_at (λ k. cmp e.0 k ≡ Less) es j d rising.0 (omega (arith, below)))
   comparisons_rise key (e ∷ es) rising (suc i) zero d upto below = absurd (omega (arith, upto))
   comparisons_rise key (e ∷ es) rising (suc i) (suc j) d upto below = comparisons_rise key es rising.1 i j d (omega (arith, upto)) (omega (arith, below))
 
   -- where the search finds the key
-  pub found_at : (key : K) (es : List (K × X)) (place : ℕ) → AreRising cmp es → place < length es → HoldsAt (λ e. cmp e.0 key ≡ Equal) es place → IsFoundAt cmp key es place
+  found_at : (key : K) (es : List (K × X)) (place : ℕ) → AreRising cmp es → place < length (keys_of es)
+      → HoldsAt (λ k. cmp k key ≡ Equal) (keys_of es) place → IsFoundAt cmp key es place
   found_at key [] place rising below holds = absurd (omega (arith, below))
-  found_at key (e ∷ es) zero rising below holds = holds e
+  found_at key (e ∷ es) zero rising below holds = holds e.0
   found_at key (e ∷ es) (suc place) rising below holds = (
-    before_it o e.0 (slice_index_or es place e).0 key (all_at (λ f. cmp e.0 f.0 ≡ Less) es place e rising.0 (omega (arith, below))) (holds e),
+    before_it o e.0 (slice_index_or (keys_of es) place e.0) key (key_at (λ k. cmp e.0 k ≡ Less) es place e.0 rising.0 (omega (arith, below))) (holds e.0),
     found_at key es place rising.1 (omega (arith, below)) (λ d. holds d),
   )
 
   -- where it doesn't
-  pub missing_at : (key : K) (es : List (K × X)) (place : ℕ) → place ≤ length es → AllWithin (λ e. cmp e.0 key ≡ Less) es 0 place → AllWithin (λ e. cmp e.0 key ≡ Greater) es place (length es)
-      → IsMissingAt cmp key es place
-  missing_at key es zero upto less greater = all_from (λ e. cmp e.0 key ≡ Greater) es (λ place d below. greater place d (omega arith) below)
+  missing_at : (key : K) (es : List (K × X)) (place : ℕ) → place ≤ length (keys_of es) → AllWithin (λ k. cmp k key ≡ Less) (keys_of es) 0 place
+      → AllWithin (λ k. cmp k key ≡ Greater) (keys_of es) place (length (keys_of es)) → IsMissingAt cmp key es place
+  missing_at key es zero upto less greater = all_keys (λ k. cmp k key ≡ Greater) es (λ place d below. greater place d (omega arith) below)
   missing_at key [] (suc place) upto less greater = omega (arith, upto)
   missing_at key (e ∷ es) (suc place) upto less greater = (
-    less 0 e (omega arith) (omega arith),
+    less 0 e.0 (omega arith) (omega arith),
     missing_at key es place (omega (arith, upto)) (λ k d low high. less (suc k) d (omega arith) (omega (arith, high)))
         (λ k d low high. greater (suc k) d (omega (arith, low)) (omega (arith, high))),
   )
 
-  -- so what the search answers is the key's place
-  pub searched : (key : K) (es : List (K × X)) (result : Result ℕ ℕ) → AreRising cmp es → IsSearchInRange result (length es) → IsBinarySearchResult (λ e. cmp e.0 key) es result
-      → MatchResult result (IsFoundAt cmp key es) (IsMissingAt cmp key es)
+  -- so what a search among the keys answers is the key's place
+  pub searched : (key : K) (es : List (K × X)) (result : Result ℕ ℕ) → AreRising cmp es → IsSearchInRange result (length (keys_of es))
+      → IsBinarySearchResult (λ k. cmp k key) (keys_of es) result → MatchResult result (IsFoundAt cmp key es) (IsMissingAt cmp key es)
   searched key es (Ok place) rising within is = found_at key es place rising within is
   searched key es (Err place) rising within is = let parts = is (comparisons_rise key es rising) in missing_at key es place within parts.0 parts.1
 

@@ -9,3 +9,4 @@ pub mod Ranges
 pub mod Rising
 pub mod Splits
 pub mod Updates
+pub mod Zipped

@@ -1,6 +1,6 @@
 -- Entries in order, and in blocks, each behind its bound.
-use Rattle.std.specs.Prelude.{◌≡◌, ℕ, zero, suc, false, cond, ⊤, Option, Some, None, unwrap_or, List, [], ◌∷◌, ◌++◌}
-use Rattle.std.specs.List.{AllByRecursion}
+use Rattle.std.specs.Prelude.{◌≡◌, ℕ, zero, suc, false, cond, ⊤, Option, Some, None, unwrap_or, List, [], ◌∷◌, ◌++◌, length}
+use Rattle.std.specs.List.{AllByRecursion, zip}
 use Rattle.std.specs.Ordering.{is_gt}
 use Rattle.std.specs.declared.cmp.Ordering.{Ordering}
 use Rattle.std.specs.declared.ops.Bound.{Bound}
@@ -17,6 +17,10 @@ module _ {K X : Type 0} (cmp : K → K → Ordering) where
   abbrev pub AreRising : List (K × X) → Type 0
   AreRising [] = ⊤
   AreRising (e ∷ es) = AllByRecursion (λ f. cmp e.0 f.0 ≡ Less) es × AreRising es
+
+  -- each key has a value, and they rise
+  abbrev pub AreKept : List K → List X → Type 0
+  AreKept keys values = (length values ≡ length keys) × AreRising (zip keys values)
 
   -- the key's entry stands at this place, behind those of lesser keys
   abbrev pub IsFoundAt : K → List (K × X) → ℕ → Type 0

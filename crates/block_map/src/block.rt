@@ -1,4 +1,4 @@
-//! Entries that lie side by side.
+//! Entries whose keys lie side by side, apart from their values.
 ghost use Rattle.std.specs.Prelude.{◌≡◌, ◌^◌, ◌<◌, ◌≤◌, [], IfSome, IfOk, OnErr, OnOk, length, take, drop, true, ◌↔◌, MatchResult};
 ghost use Rattle.std.specs.Borrow.{sem};
 ghost use Rattle.std.specs.Map.{lookup, remove_entry};
@@ -9,6 +9,7 @@ ghost use Rattle.std.specs.Option.{option_copied, option_copied_mut};
 ghost use Rattle.std.specs.declared.ops.Bound.TheVariants.{Unbounded};
 
 use crate::BLOCK;
+use crate::entries::Entries;
 use range_core::Memory;
 use std::alloc::Global;
 use std::marker::Model;
@@ -16,20 +17,24 @@ use std::mem;
 use std::ops::Bound;
 
 /// Entries by rising keys.
+///
+/// Keys lie apart from values, so that a search touches few lines of memory however large the values are.
 #[derive(Drop)]
 pub(crate) struct Block<K: Ord + Copy, V> {
-    entries: Vec<(K, V)>,
+    keys: Vec<K>,
+    values: Vec<V>,
 }
 
 impl<K: Ord + Copy, V> Model for Block<K, V> {
     ghost use Rattle.std.specs.Prelude.{List};
-    ghost use Rattle.block_map.specs.Blocks.{AreRising};
+    ghost use Rattle.std.specs.List.{zip};
+    ghost use Rattle.block_map.specs.Blocks.{AreKept};
 
     ghost Value = { List (K × V) };
 
-    ghost view = { λ a. a.entries.items };
+    ghost view = { λ a. zip a.keys.items a.values.items };
 
-    ghost invariant = { λ a. AreRising K.cmp a.entries.items };
+    ghost invariant = { λ a. AreKept K.cmp a.keys.items a.values.items };
 }
 
 impl<K: Ord + Copy, V: Drop> Block<K, V> {
@@ -41,37 +46,41 @@ impl<K: Ord + Copy, V: Drop> Block<K, V> {
         ensures { result ≡ [] }
     {
         Block {
-            entries: Vec::new(alloc),
+            keys: Vec::new(alloc),
+            values: Vec::new(alloc),
         }
     }
 
     /// Where the key's entry stands, or where one would.
+    #[tactic(auto, using(crate::proofs::Zipped::as_many))]
     fn place_of(&self, key: K) -> Result<usize, usize>
         ensures within { MatchResult result (λ place. place < length self.now) (λ place. place ≤ length self.now) }
         ensures place { MatchResult result (IsFoundAt K.cmp key self.now) (IsMissingAt K.cmp key self.now) }
         ensures rising { AreRising K.cmp self.now }
         ensures fits { length self.now < 2 ^ 64 }
     {
-        self.entries.binary_search_by(|entry| entry.0.cmp(&key))
+        self.keys.binary_search(&key)
     }
 
     /// The value of the key.
+    #[tactic(auto, using(crate::proofs::Zipped::as_many))]
     pub(crate) fn get(&self, key: K) -> Option<&V>
         ensures { option_copied result ≡ lookup (is_at (K.cmp key)) self.now }
     {
         match self.place_of(key) {
-            Ok(place) => Some(&self.entries[place].1),
+            Ok(place) => Some(&self.values[place]),
             Err(_) => None,
         }
     }
 
     /// The value of the key, which may be changed.
+    #[tactic(auto, using(crate::proofs::Zipped::as_many))]
     pub(crate) fn get_mut(&mut self, key: K) -> Option<&mut V>
         ensures* lends { sem 𝓛 (LendsInBlock K.row V.row K.Ord self.entry key result) }
         ensures value { option_copied_mut result ≡ lookup (is_at (K.cmp key)) self.old }
     {
         match self.place_of(key) {
-            Ok(place) => Some(&mut self.entries[place].1),
+            Ok(place) => Some(&mut self.values[place]),
             Err(_) => None,
         }
     }
@@ -79,49 +88,59 @@ impl<K: Ord + Copy, V: Drop> Block<K, V> {
     /// The key has the value. Where it had another, that is the result.
     ///
     /// `Memory` leaves the entries as they were.
+    #[tactic(auto, using(crate::proofs::Zipped::as_many))]
     pub(crate) fn insert(&mut self, key: K, value: V) -> Result<Option<V>, Memory>
         ensures old { IfOk result (λ old. old ≡ lookup (is_at (K.cmp key)) self.old) }
         ensures ok { OnOk result (self.new ≡ insert_entry K.cmp self.old key value) }
         ensures err { OnErr result (self.new ≡ self.old) }
     {
         match self.place_of(key) {
-            Ok(place) => Ok(Some(mem::replace(&mut self.entries[place].1, value))),
+            Ok(place) => Ok(Some(mem::replace(&mut self.values[place], value))),
             Err(place) => {
-                self.entries.insert(place, (key, value))?;
+                self.keys.reserve(1)?;
+                self.values.insert(place, value)?;
+                // The keys have room for it.
+                self.keys.insert(place, key).unwrap();
                 Ok(None)
             }
         }
     }
 
     /// Takes the key's entry out. It takes no memory.
+    #[tactic(auto, using(crate::proofs::Zipped::as_many))]
     pub(crate) fn remove(&mut self, key: K) -> Option<V>
         ensures value { result ≡ lookup (is_at (K.cmp key)) self.old }
         ensures entries { self.new ≡ remove_entry (is_at (K.cmp key)) self.old }
     {
         match self.place_of(key) {
-            Ok(place) => Some(self.entries.remove(place).1),
+            Ok(place) => {
+                self.keys.remove(place);
+                Some(self.values.remove(place))
+            }
             Err(_) => None,
         }
     }
 
     /// Whether there is no entry.
+    #[tactic(auto, using(crate::proofs::Zipped::as_many, crate::proofs::Zipped::no_entry))]
     pub(crate) fn is_empty(&self) -> bool
         ensures { (result ≡ true) ↔ (self.now ≡ []) }
     {
-        self.entries.is_empty()
+        self.keys.is_empty()
     }
 
     /// Where there is no room for one more entry, and the key has none: from where on the entries are to go to another block.
     ///
     /// Where the key belongs behind all, only the last entry goes, so that keys that rise leave full blocks behind.
+    #[tactic(auto, using(crate::proofs::Zipped::as_many))]
     pub(crate) fn place_to_split(&self, key: K) -> Option<usize>
         ensures { IfSome result (λ place. (0 < place) × (place < length self.now)) }
     {
-        let len = self.entries.len();
+        let len = self.keys.len();
         if len < BLOCK || self.place_of(key).is_ok() {
             return None;
         }
-        if self.entries[len - 1].0 < key {
+        if self.keys[len - 1] < key {
             Some(len - 1)
         } else {
             Some(len / 2)
@@ -129,17 +148,19 @@ impl<K: Ord + Copy, V: Drop> Block<K, V> {
     }
 
     /// The key of the entry at this place.
+    #[tactic(auto, using(crate::proofs::Zipped::as_many))]
     pub(crate) fn key_at(&self, place: usize) -> K
         requires { place < length self.now }
         ensures key { HoldsAt (λ e. e.0 ≡ result) self.now place }
         ensures rising { AreRising K.cmp self.now }
     {
-        self.entries[place].0
+        self.keys[place]
     }
 
     /// Takes the entries from this place on out.
     ///
     /// `Memory` leaves the entries as they were.
+    #[tactic(auto, using(crate::proofs::Zipped::as_many))]
     pub(crate) fn split_off(&mut self, place: usize) -> Result<Self, Memory>
         requires { place ≤ length self.old }
         ensures ok { OnOk result (self.new ≡ take place self.old) }
@@ -147,15 +168,17 @@ impl<K: Ord + Copy, V: Drop> Block<K, V> {
         ensures err { OnErr result (self.new ≡ self.old) }
         ensures rising { AreRising K.cmp self.old }
     {
-        let entries = self.entries.split_off(place)?;
-        Ok(Block { entries })
+        let keys = Vec::from_slice(*self.keys.allocator(), &self.keys[place..])?;
+        let values = self.values.split_off(place)?;
+        self.keys.truncate(place);
+        Ok(Block { keys, values })
     }
 
-    /// All entries, side by side.
-    pub(crate) fn entries(&self) -> &[(K, V)]
-        ensures { result.now ≡ self.now }
+    /// All entries.
+    pub(crate) fn entries(&self) -> Entries<'_, K, V>
+        ensures { result ≡ self.now }
     {
-        &self.entries
+        Entries::new(&self.keys, &self.values)
     }
 
     /// Where the entries from the bound on begin.
@@ -177,10 +200,11 @@ impl<K: Ord + Copy, V: Drop> Block<K, V> {
     }
 
     /// The entries from the bound on.
-    pub(crate) fn entries_from(&self, from: &Bound<K>) -> &[(K, V)]
-        ensures { result.now ≡ entries_between K.cmp from.now Unbounded self.now }
+    #[tactic(auto, using(crate::proofs::Zipped::as_many))]
+    pub(crate) fn entries_from(&self, from: &Bound<K>) -> Entries<'_, K, V>
+        ensures { result ≡ entries_between K.cmp from.now Unbounded self.now }
     {
         let place = self.place_from(from);
-        &self.entries[place..]
+        Entries::new(&self.keys[place..], &self.values[place..])
     }
 }

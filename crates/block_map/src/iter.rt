@@ -1,5 +1,6 @@
 //! The entries in order.
 use crate::block::Block;
+use crate::entries::Entries;
 use std::collections::btree_map::Range;
 use std::marker::Model;
 
@@ -7,7 +8,7 @@ use std::marker::Model;
 #[derive(Drop)]
 pub struct Iter<'a, K: Ord + Copy, V> {
     /// What is left of the block that is gone through.
-    pub(crate) left: &'a [(K, V)],
+    pub(crate) left: Entries<'a, K, V>,
     /// The blocks behind it.
     pub(crate) blocks: Range<'a, K, Block<K, V>>,
 }
@@ -18,7 +19,7 @@ impl<'a, K: Ord + Copy, V> Model for Iter<'a, K, V> {
 
     ghost Value = { List (K × V) };
 
-    ghost view = { λ a. a.left.now ++ entries_of a.blocks };
+    ghost view = { λ a. a.left ++ entries_of a.blocks };
 }
 
 impl<'a, K: Ord + Copy, V: Drop> Iterator for Iter<'a, K, V> {
@@ -33,12 +34,12 @@ impl<'a, K: Ord + Copy, V: Drop> Iterator for Iter<'a, K, V> {
     ghost remaining = { λ entries. at_most (length entries) };
 
     fn next(&mut self) -> Option<(&'a K, &'a V)> {
-        while self.left.is_empty() {
+        loop {
+            if let Some(entry) = self.left.take_first() {
+                return Some(entry);
+            }
             let (_, block) = self.blocks.next()?;
             self.left = block.entries();
         }
-        let entry = &self.left[0];
-        self.left = &self.left[1..];
-        Some((&entry.0, &entry.1))
     }
 }

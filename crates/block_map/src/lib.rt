@@ -3,6 +3,7 @@
 
 mod block;
 mod blocks;
+mod entries;
 mod iter;
 mod map;
 

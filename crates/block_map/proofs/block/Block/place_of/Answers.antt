@@ -1,10 +1,15 @@
-use Rattle.std.proofs.Common.{rules, ◌≡◌}
-use Rattle.std.proofs.lemmas.Fn.{always_returns_same}
+use Rattle.std.proofs.Common.{length, sym, subst, ◌∙◌}
+use Rattle.std.specs.List.{zip}
+use Rattle.std.specs.List.Sorted.{IsBinarySearchResult, IsSearchInRange}
+use Rattle.std.proofs.lemmas.Map.Made.{keys_of-zip}
 use Rattle.block_map.proofs.Found.{searched}
 use Rattle.block_map.proofs.block.Block.place_of.Goals as goal
 
 pub returns-clause-place : goal.returns-clause-place
 returns-clause-place g c =
-    rw (← c.self.view_is) (searched g.met.K.Ord.total c.args.key c.self.inside.entries.items c.binary_search_by.result c.self.invariant
-    (rw (← c.deref.ensures.value) c.binary_search_by.ensures.bound)
-    (rw (← c.deref.ensures.value) (c.binary_search_by.ensures.position (λ e. g.K.Ord.cmp e.0 c.args.key) (always_returns_same _ (λ a r. r ≡ g.K.Ord.cmp a.0.now.0 c.args.key) _ (λ a r f called. search rules)))))
+    let ks = c.self.inside.keys.items in
+    let vs = c.self.inside.values.items in
+    let all = c.deref.ensures.value ∙ sym (keys_of-zip ks vs c.self.invariant.0) in
+    rw (← c.self.view_is) (searched g.met.K.Ord.total c.args.key (zip ks vs) c.binary_search.result c.self.invariant.1
+    (subst (λ keys. IsSearchInRange c.binary_search.result (length keys)) all c.binary_search.ensures.bound)
+    (subst (λ keys. IsBinarySearchResult (λ k. g.K.Ord.cmp k c.args.key) keys c.binary_search.result) all c.binary_search.ensures.position))
