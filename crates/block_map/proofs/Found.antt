@@ -169,12 +169,3 @@ module _ {K X : Type 0} {cmp : K → K → Ordering} (o : IsTotalOrder cmp) wher
   missing_remove key [] (suc place) missing = absurd missing
   missing_remove key (e ∷ es) (suc place) missing =
       ap (λ b. cond b es (e ∷ remove_entry (is_at (cmp key)) es)) (comes_before key e missing.0) ∙ ap (λ fs. e ∷ fs) (missing_remove key es place missing.1)
-
-  -- nor does a value that is set change anything
-  pub missing_set : (key : K) (value : X) (es : List (K × X)) (place : ℕ) → IsMissingAt cmp key es place → set_value (is_at (cmp key)) es value ≡ es
-  missing_set key value [] zero missing = refl
-  missing_set key value (e ∷ es) zero missing =
-      ap (λ b. cond b ((e.0, value) ∷ es) (e ∷ set_value (is_at (cmp key)) es value)) (comes_behind key e missing.0) ∙ ap (λ fs. e ∷ fs) (missing_set key value es zero missing.1)
-  missing_set key value [] (suc place) missing = absurd missing
-  missing_set key value (e ∷ es) (suc place) missing =
-      ap (λ b. cond b ((e.0, value) ∷ es) (e ∷ set_value (is_at (cmp key)) es value)) (comes_before key e missing.0) ∙ ap (λ fs. e ∷ fs) (missing_set key value es place missing.1)

@@ -54,6 +54,15 @@ set_same test (e ∷ es) value found = at (test e.0) found (set_same test es val
     at true is rest = let eq : e.1 ≡ value = (let q : Some e.1 ≡ Some value = is in cc) in ap (λ v. (e.0, v) ∷ es) (sym eq)
     at false is rest = ap (λ fs. e ∷ fs) (rest is)
 
+-- where none is found, none is given another value
+pub set_none : {K Y : Type 0} (test : K → Bool) (es : List (K × Y)) (value : Y) → lookup test es ≡ None → set_value test es value ≡ es
+set_none test [] value none = refl
+set_none test (e ∷ es) value none = at (test e.0) none (set_none test es value)
+  where
+    at : (b : Bool) → cond b (Some e.1) (lookup test es) ≡ None → (lookup test es ≡ None → set_value test es value ≡ es) → cond b ((e.0, value) ∷ es) (e ∷ set_value test es value) ≡ e ∷ es
+    at true is rest = absurd (let no : Some e.1 ≡ None = is in cc)
+    at false is rest = ap (λ fs. e ∷ fs) (rest is)
+
 -- what an entry is given is found there
 set_found : {K Y : Type 0} (test : K → Bool) (es : List (K × Y)) (value old : Y) → lookup test es ≡ Some old → lookup test (set_value test es value) ≡ Some value
 set_found test [] value old found = absurd (let no : None ≡ Some old = found in cc)

@@ -1,11 +1,12 @@
 -- What is done to keys and to values is done to the entries.
 use Rattle.std.proofs.Common.{◌≡◌, ℕ, ◌-◌, ◌<◌, zero, suc, List, [], ◌∷◌, Some, length, slice_index_or, slice_set, take, drop, take_all, length-drop, length-set, length-take, refl, sym, ap, subst, ◌∙◌}
 use native.Mathlib.Omega.{arith}
-use Rattle.std.specs.List.{insert, remove, zip}
+use Rattle.std.specs.List.{AllByRecursion, insert, remove, zip}
 use Rattle.std.specs.Map.{lookup, remove_entry, set_value}
 use Rattle.std.specs.BTreeMap.{insert_entry, is_at}
 use Rattle.std.specs.Cmp.{IsTotalOrder}
 use Rattle.std.specs.declared.cmp.Ordering.{Ordering}
+use Rattle.std.specs.declared.cmp.Ordering.TheVariants.{Less}
 use Rattle.block_map.specs.Blocks.{AreKept, AreRising, IsFoundAt, IsMissingAt}
 use Rattle.block_map.proofs.Found.{found_below, found_insert, found_remove, found_set, found_value, missing_insert}
 use Rattle.block_map.proofs.Rising.{drop_rises, insert_rises, remove_rises, set_rises, take_rises}
@@ -49,6 +50,27 @@ module _ {K X : Type 0} where
   set_there (k ∷ ks) [] place d value = refl
   set_there (k ∷ ks) (v ∷ vs) zero d value = refl
   set_there (k ∷ ks) (v ∷ vs) (suc place) d value = ap (λ es. (k, v) ∷ es) (set_there ks vs place d value)
+
+  -- keys rise alike beside other values
+  all_alike : (P : K → Type 0) (ks : List K) (vs ws : List X) → length ws ≡ length vs → AllByRecursion (λ e. P e.0) (zip ks vs) → AllByRecursion (λ e. P e.0) (zip ks ws)
+  all_alike P [] vs ws same all = tt
+  all_alike P (k ∷ ks) [] [] same all = tt
+  all_alike P (k ∷ ks) [] (w ∷ ws) same all = absurd (omega (arith, same))
+  all_alike P (k ∷ ks) (v ∷ vs) [] same all = absurd (omega (arith, same))
+  all_alike P (k ∷ ks) (v ∷ vs) (w ∷ ws) same all = (all.0, all_alike P ks vs ws (omega (arith, same)) all.1)
+
+  rises_alike : (cmp : K → K → Ordering) (ks : List K) (vs ws : List X) → length ws ≡ length vs → AreRising cmp (zip ks vs) → AreRising cmp (zip ks ws)
+  rises_alike cmp [] vs ws same rising = tt
+  rises_alike cmp (k ∷ ks) [] [] same rising = tt
+  rises_alike cmp (k ∷ ks) [] (w ∷ ws) same rising = absurd (omega (arith, same))
+  rises_alike cmp (k ∷ ks) (v ∷ vs) [] same rising = absurd (omega (arith, same))
+  rises_alike cmp (k ∷ ks) (v ∷ vs) (w ∷ ws) same rising =
+      (all_alike (λ other. cmp k other ≡ Less) ks vs ws (omega (arith, same)) rising.0, rises_alike cmp ks vs ws (omega (arith, same)) rising.1)
+
+  -- so any value may be set
+  pub set_kept : (cmp : K → K → Ordering) (ks : List K) (vs : List X) (place : ℕ) (value : X) → AreKept cmp ks vs → AreKept cmp ks (slice_set vs place value)
+  set_kept cmp ks vs place value kept =
+      (length-set vs place value ∙ kept.0, rises_alike cmp ks vs (slice_set vs place value) (length-set vs place value) kept.1)
 
   -- a key and a value that come
   insert_there : (ks : List K) (vs : List X) (place : ℕ) (key : K) (value : X) → length vs ≡ length ks

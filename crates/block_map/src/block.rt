@@ -39,7 +39,7 @@ impl<K: Ord + Copy, V> Model for Block<K, V> {
 
 impl<K: Ord + Copy, V: Drop> Block<K, V> {
     ghost use Rattle.block_map.specs.Blocks.{AreRising, IsFoundAt, IsMissingAt};
-    ghost use Rattle.block_map.specs.Lending.{LendsInBlock};
+    ghost use Rattle.block_map.specs.Lending.{LendsAt};
 
     /// No entry. It takes no memory.
     pub(crate) fn new(alloc: Global) -> Self
@@ -53,7 +53,7 @@ impl<K: Ord + Copy, V: Drop> Block<K, V> {
 
     /// Where the key's entry stands, or where one would.
     #[tactic(auto, using(crate::proofs::Zipped::as_many))]
-    fn place_of(&self, key: K) -> Result<usize, usize>
+    pub(crate) fn place_of(&self, key: K) -> Result<usize, usize>
         ensures within { MatchResult result (λ place. place < length self.now) (λ place. place ≤ length self.now) }
         ensures place { MatchResult result (IsFoundAt K.cmp key self.now) (IsMissingAt K.cmp key self.now) }
         ensures rising { AreRising K.cmp self.now }
@@ -73,15 +73,16 @@ impl<K: Ord + Copy, V: Drop> Block<K, V> {
         }
     }
 
-    /// The value of the key, which may be changed.
+    /// The value at this place, which may be changed: that of whichever key is found there.
     #[tactic(auto, using(crate::proofs::Zipped::as_many))]
-    pub(crate) fn get_mut(&mut self, key: K) -> Option<&mut V>
-        ensures* lends { sem 𝓛 (LendsInBlock K.row V.row K.Ord self.entry key result) }
-        ensures value { option_copied_mut result ≡ lookup (is_at (K.cmp key)) self.old }
+    pub(crate) fn value_at(&mut self, place: usize) -> Option<&mut V>
+        ensures* lends { sem 𝓛 (LendsAt K.row V.row K.Ord self.entry place result) }
+        ensures value { (key : K) → IsFoundAt K.cmp key self.old place → option_copied_mut result ≡ lookup (is_at (K.cmp key)) self.old }
     {
-        match self.place_of(key) {
-            Ok(place) => Some(&mut self.values[place]),
-            Err(_) => None,
+        if place < self.values.len() {
+            Some(&mut self.values[place])
+        } else {
+            None
         }
     }
 

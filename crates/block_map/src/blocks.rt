@@ -96,8 +96,11 @@ impl<K: Ord + Copy, V: Drop> Blocks<K, V> {
         ensures* lends { sem 𝓛 (LendsValue K.row V.row K.Ord self.entry key result) }
         ensures value { option_copied_mut result ≡ lookup (is_at (K.cmp key)) (entries_in self.old) }
     {
-        let bound = self.bound_for(key);
-        self.block_mut(bound)?.get_mut(key)
+        let (bound, block) = self.block_for(key);
+        match block.place_of(key) {
+            Ok(place) => self.block_mut(bound)?.value_at(place),
+            Err(_) => None,
+        }
     }
 
     /// The key has the value. Where it had another, that is the result.
