@@ -1,7 +1,9 @@
 -- Where a list that a test cuts in two is split, too.
-use Rattle.std.proofs.Common.{◌≡◌, ◌<◌, Bool, true, false, cond, ◌&&◌, ◌||◌, Some, None, List, [], ◌∷◌, ◌++◌, length, refl, ap, ◌∙◌, subst, arith}
+use Rattle.std.proofs.Common.{◌≡◌, ◌<◌, Bool, true, false, cond, ◌&&◌, ◌||◌, Option, Some, None, List, [], ◌∷◌, ◌++◌, length, refl, ap, ◌∙◌, subst, arith}
 use Rattle.std.specs.List.{find, list_any, AllByRecursion}
-use Rattle.summary_tree.specs.Cuts.{IsCutBy, first_passes, last_passes, both}
+use Rattle.std.specs.Option.{option_or}
+use Rattle.std.proofs.lemmas.List.Folds.{find-append}
+use Rattle.summary_tree.specs.Cuts.{IsCutBy, first_passes, last_passes, both, unless}
 use Rattle.summary_tree.proofs.Splits.{NonePasses, EachPasses, all_back}
 
 all_front : {X : Type 0} (P : X → Type 0) (l m : List X) → AllByRecursion P (l ++ m) → AllByRecursion P l
@@ -101,3 +103,25 @@ found_by_both p q (x ∷ xs) h = ap (λ b. cond (b && q x) (Some x) (find (both 
 pub none_by_both : {X : Type 0} (p q : X → Bool) (xs : List X) → NonePasses p xs → find (both p q) xs ≡ None
 none_by_both p q [] h = refl
 none_by_both p q (x ∷ xs) h = ap (λ b. cond (b && q x) (Some x) (find (both p q) xs)) h.0 ∙ none_by_both p q xs h.1
+
+-- where the first of b passes, so does each from it on
+pub each_from_first : {X : Type 0} (p : X → Bool) (b r : List X) → 0 < length b → IsCutBy p (b ++ r) → first_passes p b ≡ true → EachPasses p (b ++ r)
+each_from_first p [] r filled h f = absurd (omega arith)
+each_from_first p (x ∷ b) r filled h f = (f, h.0 f)
+
+none_unless_at : {X : Type 0} (p : X → Bool) (x : X) (b : Bool) (rest : Option X) → p x ≡ true → unless p rest ≡ None → unless p (cond b (Some x) rest) ≡ None
+none_unless_at p x true rest passes none = ap (λ b. cond b None (Some x)) passes
+none_unless_at p x false rest passes none = none
+
+-- what is found where each passes isn't one that doesn't
+none_unless : {X : Type 0} (p q : X → Bool) (m : List X) → EachPasses p m → unless p (find q m) ≡ None
+none_unless p q [] h = refl
+none_unless p q (x ∷ m) h = none_unless_at p x (q x) (find q m) h.0 (none_unless p q m h.1)
+
+unless_or : {X : Type 0} (p : X → Bool) (one other : Option X) → unless p other ≡ None → unless p (option_or one other) ≡ unless p one
+unless_or p None other none = none
+unless_or p (Some x) other none = refl
+
+-- where each of m passes the one test, the first that passes the other is that of l, unless it passes both
+pub unless_front : {X : Type 0} (p q : X → Bool) (xs l m : List X) → xs ≡ l ++ m → EachPasses p m → unless p (find q xs) ≡ unless p (find q l)
+unless_front p q xs l m is h = ap (λ all. unless p (find q all)) is ∙ (ap (unless p) (find-append q l m) ∙ unless_or p (find q l) (find q m) (none_unless p q m h))

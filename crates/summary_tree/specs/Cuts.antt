@@ -1,5 +1,5 @@
 -- Tests that cut a list in two.
-use Rattle.std.specs.Prelude.{◌≡◌, Bool, true, false, cond, ◌&&◌, List, [], ◌∷◌}
+use Rattle.std.specs.Prelude.{◌≡◌, Bool, true, false, cond, ◌&&◌, List, [], ◌∷◌, Option, Some, None}
 use Rattle.std.specs.List.{AllByRecursion}
 
 -- behind an item that passes each passes
@@ -41,3 +41,8 @@ before p (y ∷ ys) = cond (p y) [] (y ∷ before p ys)
 -- the item passes both tests
 abbrev pub both : {X : Type 0} → (X → Bool) → (X → Bool) → X → Bool
 both p q x = p x && q x
+
+-- the item, unless it passes
+abbrev pub unless : {X : Type 0} → (X → Bool) → Option X → Option X
+unless p None = None
+unless p (Some x) = cond (p x) None (Some x)

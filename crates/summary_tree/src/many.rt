@@ -1,7 +1,7 @@
 //! Many items, in nodes.
 ghost use Rattle.std.specs.Prelude.{◌≡◌, ◌+◌, ◌-◌, ◌*◌, ◌<◌, ◌≤◌, ◌⊎◌, ◌^◌, [], ◌++◌, List, None, length, IfOk, IsOk, OnOk, OnErr};
 ghost use Rattle.std.specs.List.{find, last_or};
-ghost use Rattle.summary_tree.specs.Cuts.{before, both, IsCutBy, put_before, with_first, without_first};
+ghost use Rattle.summary_tree.specs.Cuts.{before, both, unless, IsCutBy, put_before, with_first, without_first};
 ghost use Rattle.summary_tree.specs.Sizes.{block_size, part_size, puts_until_split};
 
 use crate::places::Places;
@@ -119,6 +119,18 @@ impl<T: Copy, S: Summary<T> + Copy> Many<T, S> {
         ensures { result ≡ last_or None self.now.items }
     {
         self.items.last()
+    }
+
+    /// The first item that is looked for, if it stands before a place.
+    pub(crate) fn first_where_before<C: Cut<T>, Q: Query<T, S>>(
+        &self,
+        cut: &C,
+        query: &Q,
+    ) -> Option<T>
+        requires { IsCutBy (C.is_behind cut.now) self.now.items }
+        ensures { result ≡ unless (C.is_behind cut.now) (find (Q.hits query.now) self.now.items) }
+    {
+        self.items.first_where_before(cut, query)
     }
 
     /// The first item from a place on that is looked for.

@@ -1,7 +1,7 @@
 //! What is asked of items that lie side by side.
-ghost use Rattle.std.specs.Prelude.{◌≡◌, ◌++◌, List, None};
+ghost use Rattle.std.specs.Prelude.{◌≡◌, ◌++◌, List, None, Some};
 ghost use Rattle.std.specs.List.{find, last_or, position_or_len, slice_get};
-ghost use Rattle.summary_tree.specs.Cuts.{before, both};
+ghost use Rattle.summary_tree.specs.Cuts.{before, both, unless};
 
 use crate::{Beside, Cut, Query, Summary, Walk};
 
@@ -18,6 +18,17 @@ pub(crate) fn first_where<T: Copy, S: Summary<T>, Q: Query<T, S>>(
         }
     }
     None
+}
+
+/// The item, if it stands before a place.
+pub(crate) fn unless_behind<T: Copy, C: Cut<T>>(item: T, cut: &C) -> Option<T>
+    ensures { result ≡ unless (C.is_behind cut.now) (Some item) }
+{
+    if cut.is_behind(&item) {
+        None
+    } else {
+        Some(item)
+    }
 }
 
 /// The first item from a place on that is looked for.

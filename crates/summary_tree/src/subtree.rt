@@ -2,12 +2,13 @@
 ghost use Rattle.std.specs.Prelude.{◌≡◌, ◌+◌, ◌*◌, ◌<◌, ◌≤◌, ◌^◌, [], ◌∷◌, ◌++◌, List, None, length};
 ghost use Rattle.std.specs.List.{find, last_or};
 ghost use Rattle.std.specs.Option.{option_or};
-ghost use Rattle.summary_tree.specs.Cuts.{before, both, IsCutBy};
+ghost use Rattle.summary_tree.specs.Cuts.{before, both, unless, IsCutBy};
 
 mod balancing;
 mod changing;
 
 use crate::block::Block;
+use crate::slices::unless_behind;
 use crate::{Beside, Cut, Query, Summary, Walk};
 pub(crate) use changing::{of_items, of_one};
 use std::marker::Model;
@@ -175,6 +176,34 @@ impl<T: Copy, S: Summary<T> + Copy> Subtree<T, S> {
                     return Some(found);
                 }
                 node.right.first_where(query)
+            }
+        }
+    }
+
+    /// The first item that is looked for, if it stands before a place: a search doesn't go on behind that.
+    pub(crate) fn first_where_before<C: Cut<T>, Q: Query<T, S>>(
+        &self,
+        cut: &C,
+        query: &Q,
+    ) -> Option<T>
+        requires { IsCutBy (C.is_behind cut.now) self.now.items }
+        ensures { result ≡ unless (C.is_behind cut.now) (find (Q.hits query.now) self.now.items) }
+    {
+        match &self.link {
+            Link::Empty => None,
+            Link::Fork(node) => {
+                let node: &Node<T, S> = node;
+                // Then all from its block on stands behind the place.
+                if node.block.begins_behind(cut) {
+                    return node.left.first_where_before(cut, query);
+                }
+                if let Some(found) = node.left.first_where(query) {
+                    return unless_behind(found, cut);
+                }
+                if let Some(found) = node.block.first_where(query) {
+                    return unless_behind(found, cut);
+                }
+                node.right.first_where_before(cut, query)
             }
         }
     }

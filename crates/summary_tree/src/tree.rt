@@ -1,10 +1,11 @@
 //! The tree as others see it.
 ghost use Rattle.std.specs.Prelude.{◌≡◌, ◌+◌, ◌*◌, ◌<◌, ◌≤◌, ◌^◌, [], ◌++◌, List, None, length, IsOk, OnOk, OnErr};
 ghost use Rattle.std.specs.List.{find, last_or};
-ghost use Rattle.summary_tree.specs.Cuts.{before, both, IsCutBy, put_before, with_first, without_first};
+ghost use Rattle.summary_tree.specs.Cuts.{before, both, unless, IsCutBy, put_before, with_first, without_first};
 
 use crate::few::Few;
 use crate::many::Many;
+use crate::slices::unless_behind;
 use crate::{Beside, Cut, Query, Summary, Walk, slices};
 use range_core::Memory;
 use std::alloc::Global;
@@ -117,6 +118,17 @@ impl<T: Copy, S: Summary<T> + Copy> Tree<T, S> {
         match &self.items {
             Items::Few(few) => slices::last(few.items()),
             Items::Many(many) => many.last(),
+        }
+    }
+
+    /// The first item that is looked for, if it stands before a place: a search doesn't go on behind that.
+    pub fn first_where_before<C: Cut<T>, Q: Query<T, S>>(&self, cut: &C, query: &Q) -> Option<T>
+        requires { IsCutBy (C.is_behind cut.now) self.now.items }
+        ensures { result ≡ unless (C.is_behind cut.now) (find (Q.hits query.now) self.now.items) }
+    {
+        match &self.items {
+            Items::Few(few) => unless_behind(slices::first_where(few.items(), query)?, cut),
+            Items::Many(many) => many.first_where_before(cut, query),
         }
     }
 
