@@ -1,8 +1,9 @@
 -- Facts on runs that stand in the way.
-use Rattle.interval_index.proofs.Common.{◌≡◌, ℕ, ◌<◌, ◌≤◌, ◌⊎◌, Bool, true, false, not, cond, ◌&&◌, ◌||◌, leb, Option, Some, None, List, [], ◌∷◌, refl, sym, ap, ◌∙◌, arith, find, list_any, AllByRecursion, Any, is_some, nat_tests, Mode, Span, Conflict, Holder, Run, holder_of, is_same_holder, IsBefore, AreOrdered, beginning_by, conflicts_with, blocks}
-use Rattle.std.proofs.Common.{suc, inl, inr, length, max}
+use Rattle.interval_index.proofs.Common.{◌≡◌, ℕ, ◌<◌, ◌≤◌, ◌⊎◌, Bool, true, false, not, cond, ◌&&◌, ◌||◌, leb, Option, Some, None, List, [], ◌∷◌, refl, sym, ap, ◌∙◌, arith, find, list_any, AllByRecursion, Any, is_some, nat_tests, Mode, Span, Conflict, Holder, Run, holder_of, is_same_holder, IsBefore, AreOrdered, begins_after, beginning_by, conflicts_with, blocks}
+use Rattle.std.proofs.Common.{ltb, suc, inl, inr, length, max}
 use Rattle.std.proofs.lemmas.List.Folds.{list_any-from_Any}
 use Rattle.range_core.specs.declared.Mode.TheVariants.{Read, Write}
+use Rattle.summary_tree.specs.Cuts.{unless}
 use Rattle.interval_index.proofs.HolderLemmas.{another_found, another_holds}
 use Rattle.interval_index.specs.Runs.{Blocks}
 
@@ -30,6 +31,15 @@ pub first_within : (q : Run → Bool) (last : ℕ) (runs : List Run) → AreOrde
 first_within q last [] h = refl
 first_within q last (x ∷ xs) h =
     within_at (q x) (leb x.span.first last) x (find (λ y. q y && leb y.span.first last) xs) (find q xs) last refl (λ e. none_within q last x xs h.1 e) (first_within q last xs h.2)
+
+-- what doesn't begin behind the byte begins by it
+pub within_beyond : (last : ℕ) (found : Option Run) → unless (begins_after last) found ≡ beginning_by last found
+within_beyond last None = refl
+within_beyond last (Some run) = beyond_at (ltb last run.span.first) (leb run.span.first last) run (grind (arith, nat_tests))
+  where
+    beyond_at : (after by : Bool) (run : Run) → after ≡ not by → cond after None (Some run) ≡ cond by (Some run) None
+    beyond_at after true run is = ap (λ b. cond b None (Some run)) is
+    beyond_at after false run is = ap (λ b. cond b None (Some run)) is
 
 regrouped_at : (a b c : Bool) (x : Run) (r s : Option Run) → r ≡ s → cond (a && (b && c)) (Some x) r ≡ cond ((a && b) && c) (Some x) s
 regrouped_at true b c x r s h = ap (λ o. cond (b && c) (Some x) o) h

@@ -70,7 +70,7 @@ impl RunIndex {
             wanted,
         };
         // Of the runs that reach the range the first begins first: where it begins behind the range, so do all.
-        beginning_by(self.runs.first_where(&query), span.last)
+        self.runs.first_where_before(&Beyond(span.last), &query)
     }
 
     /// The next run, behind this one, that stands in the way of a lock.
