@@ -3,8 +3,8 @@ use Rattle.std.proofs.Common.{inl, inr, ℕ, ◌≡◌, ◌∙◌, Option, None,
 use Rattle.std.proofs.lemmas.Bool.{false≢true}
 use Rattle.range_core.specs.declared.Mode.{Mode}
 use Rattle.range_core.specs.declared.Span.{Span}
-use Rattle.range_core.specs.Changes.{is_covered, mode_in}
-use Rattle.range_core.specs.Ranges.{Covers}
+use Rattle.range_core.specs.Changes.{is_covered, mode_in, modes_with, SetsMode}
+use Rattle.range_core.specs.Ranges.{Covers, Modes}
 use Rattle.owner_runs.specs.Lone.{IsPieceOutside}
 use Rattle.owner_runs.specs.Trees.{IsSetOn}
 use Rattle.owner_runs.proofs.ModeLemmas.{cases_covers, covered}
@@ -28,6 +28,13 @@ set_by old new span mode inside outside = record {
   below = λ byte before. outside byte (λ covers. omega (arith, before, covers.0));
   above = λ byte behind. outside byte (λ covers. omega (arith, behind, covers.1));
 }
+
+-- where each byte of the range has the mode already, modes that stay are those that a set makes
+pub set_already : (modes : Modes) (span : Span) (mode : Option Mode) → ((byte : ℕ) → Covers span byte → modes byte ≡ mode) → SetsMode modes modes span mode
+set_already modes span mode same byte = elim (cases_covers span byte) as (λ _. modes byte ≡ modes_with modes span mode byte) [
+  | inl covers ↦ same byte covers ∙ sym (ap (λ b. if b then mode else modes byte) (covered span byte covers.0 covers.1))
+  | inr free ↦ sym (ap (λ b. if b then mode else modes byte) free)
+]
 
 -- the run and the range are joined to one of this mode
 pub joined_set : (held : Mode) (run : Span) (mode : Mode) (span all : Span) → ((byte : ℕ) → Covers span byte → Covers all byte)

@@ -2,7 +2,7 @@
 ghost use Rattle.std.specs.Prelude.{ℕ, ◌≡◌, ◌+◌, ◌<◌, ◌≤◌, ◌↔◌, [], ◌∷◌, All, None, Some, IfNone, IfSome, IsFalse, IsTrue};
 ghost use Rattle.range_core.specs.declared.Mode.{Mode};
 ghost use Rattle.range_core.specs.Changes.{mode_in, SetsMode};
-ghost use Rattle.range_core.specs.Ranges.{AreRuns, Covers, HeldConflicts, IsByteRange, IsFirstHit, IsRun, SplitsRun};
+ghost use Rattle.range_core.specs.Ranges.{AreRuns, Covers, HeldConflicts, IsByteRange, IsConstant, IsFirstHit, IsRun, SplitsRun};
 ghost use Rattle.owner_runs.specs.Lone.{IsLeftOf};
 ghost use Rattle.owner_runs.specs.Trees.{IsSetOn};
 
@@ -138,6 +138,7 @@ impl LoneRun {
         ensures yes { IsTrue result → SetsMode (mode_in self.old.items) (mode_in self.new.items) span mode }
         ensures room { self.new.room ≡ self.old.room }
         ensures unlock { mode ≡ None → (¬ SplitsRun (mode_in self.old.items) span) → IsTrue result }
+        ensures again { (wanted : Mode) → mode ≡ Some wanted → IsConstant (mode_in self.old.items) span wanted → IsTrue result }
         ensures no { IsFalse result → self.new.items ≡ self.old.items }
     {
         match mode {
@@ -163,6 +164,7 @@ impl LoneRun {
         requires { IsByteRange span }
         ensures yes { IsTrue result → IsSetOn (mode_in self.old.items) (mode_in self.new.items) span (Some mode) }
         ensures room { self.new.room ≡ self.old.room }
+        ensures again { IsConstant (mode_in self.old.items) span mode → IsTrue result }
         ensures no { IsFalse result → self.new.items ≡ self.old.items }
     {
         match self.place {
@@ -229,6 +231,7 @@ fn joined(held: Mode, run: Span, mode: Mode, span: Span) -> Option<Span>
     ensures inside { IfSome result (λ all. (byte : ℕ) → Covers span byte → Covers all byte) }
     ensures mode { IfSome result (λ all. (byte : ℕ) → Covers all byte → (¬ Covers span byte) → Covers run byte × (held ≡ mode)) }
     ensures outside { IfSome result (λ all. (byte : ℕ) → (¬ Covers all byte) → ¬ Covers run byte) }
+    ensures none { IfNone result (¬ ((held ≡ mode) × (run.first ≤ span.first) × (span.last ≤ run.last))) }
 {
     if span.first <= run.first && run.last <= span.last {
         return Some(span);

@@ -2,8 +2,8 @@
 ghost use Rattle.std.specs.Prelude.{ℕ, ◌≡◌, ◌≢◌, ◌+◌, ◌<◌, ◌≤◌, ◌↔◌, All, AllPairs, List, None, Some, IfNone, IfOk, IfSome, IsFalse, IsOk, IsTrue, OnErr, OnOk, length};
 ghost use Rattle.range_core.specs.declared.Mode.{Mode};
 ghost use Rattle.range_core.specs.declared.Span.{Span};
-ghost use Rattle.range_core.specs.Changes.{mode_in, SetsMode, modes_of as list_modes_of, room_of as list_room_of};
-ghost use Rattle.range_core.specs.Ranges.{AreRuns, Covers, HeldConflicts, IsByteRange, IsFirstHit, IsRun, Modes, SplitsRun};
+ghost use Rattle.range_core.specs.Changes.{mode_in, SameList, SetsMode, modes_of as list_modes_of, room_of as list_room_of};
+ghost use Rattle.range_core.specs.Ranges.{AreRuns, Covers, HeldConflicts, IsByteRange, IsConstant, IsFirstHit, IsRun, Modes, SplitsRun};
 ghost use Rattle.owner_runs.specs.Lists.{AreTouched, IsExtent, modes_of, room_of, SameRuns, StandsFor};
 ghost use Rattle.owner_runs.specs.Trees.{AreRunsTouching};
 
@@ -62,18 +62,15 @@ impl OwnerRuns {
     /// Sets the mode on just the bytes of the span, or removes it where `mode` is `None`; the room that is held stays
     /// (POSIX.1-2017 fcntl, `F_SETLK`: the new lock replaces the owner's old ones on these bytes).
     ///
-    /// A lock that is there already changes nothing. `Memory`, which never comes where an unlock splits no run, leaves the runs as they
-    /// were.
+    /// `Memory`, which never comes where an unlock splits no run or a lock is there already, leaves the runs as they were.
     pub fn set(&mut self, span: Span, mode: Option<Mode>) -> Result<(), Memory>
         requires { IsByteRange span }
         ensures ok { OnOk result (SetsMode (modes_of self.old) (modes_of self.new) span mode) }
         ensures room { OnOk result (room_of self.old ≤ room_of self.new) }
         ensures unlock { mode ≡ None → (¬ SplitsRun (modes_of self.old) span) → IsOk result }
+        ensures again { (wanted : Mode) → mode ≡ Some wanted → IsConstant (modes_of self.old) span wanted → IsOk result }
         ensures err { OnErr result (SameRuns self.old self.new) }
     {
-        if self.is_listed_already(span, mode) {
-            return Ok(());
-        }
         self.ready(span, mode);
         match &mut self.kept {
             Kept::Lone(lone) => {
@@ -82,31 +79,17 @@ impl OwnerRuns {
                 }
                 Ok(())
             }
-            Kept::Few(list) => list.set(span, mode),
+            Kept::Few(list) => set_listed(list.as_mut(), span, mode),
             Kept::Many(tree) => tree.set(span, mode),
         }
     }
 
-    /// Whether each byte of the span has the mode already; of an unlock it isn't said.
-    pub fn has_already(&self, span: Span, mode: Option<Mode>) -> bool
+    /// Whether each byte of the span has the mode.
+    pub fn has_already(&self, span: Span, mode: Mode) -> bool
         requires { IsByteRange span }
-        ensures { IsTrue result → (byte : ℕ) → Covers span byte → modes_of self.now byte ≡ mode }
+        ensures { IsTrue result ↔ IsConstant (modes_of self.now) span mode }
     {
-        match (mode, self.run_at(span.first)) {
-            (Some(mode), Some((held, run))) => held == mode && span.last <= run.last,
-            _ => false,
-        }
-    }
-
-    /// The same, as a list tells: a tree looks on its way, when it is set.
-    fn is_listed_already(&self, span: Span, mode: Option<Mode>) -> bool
-        requires { IsByteRange span }
-        ensures { IsTrue result → (byte : ℕ) → Covers span byte → modes_of self.now byte ≡ mode }
-    {
-        match self.kept {
-            Kept::Many(_) => false,
-            Kept::Lone(_) | Kept::Few(_) => self.has_already(span, mode),
-        }
+        is_covered(self.run_at(span.first), span, mode)
     }
 
     /// Moves many runs into a tree before a set that may want memory anyway, where there is some.
@@ -314,6 +297,35 @@ impl OwnerRuns {
             Kept::Many(tree) => Standing::InTree(&tree.runs),
         }
     }
+}
+
+/// Whether the run of the span's first byte, where that has a mode, is of the mode and reaches over all of it.
+fn is_covered(run: Option<(Mode, Span)>, span: Span, mode: Mode) -> bool
+    requires { IsByteRange span }
+    ensures { (modes : Modes) → IfSome run (λ run. IsRun modes span.first run.0 run.1) → IfNone run (modes span.first ≡ None)
+        → IsTrue result ↔ IsConstant modes span mode }
+{
+    match run {
+        Some((held, run)) => held == mode && span.last <= run.last,
+        None => false,
+    }
+}
+
+/// Sets the mode in a list as [`RangeList::set`] does; a lock that is there already changes nothing.
+fn set_listed(list: &mut RangeList, span: Span, mode: Option<Mode>) -> Result<(), Memory>
+    requires { IsByteRange span }
+    ensures ok { OnOk result (SetsMode (list_modes_of list.old) (list_modes_of list.new) span mode) }
+    ensures room { OnOk result (list_room_of list.old ≤ list_room_of list.new) }
+    ensures unlock { mode ≡ None → (¬ SplitsRun (list_modes_of list.old) span) → IsOk result }
+    ensures again { (wanted : Mode) → mode ≡ Some wanted → IsConstant (list_modes_of list.old) span wanted → IsOk result }
+    ensures err { OnErr result (SameList list.old list.new) }
+{
+    if let Some(wanted) = mode {
+        if is_covered(list.run_at(span.first), span, wanted) {
+            return Ok(());
+        }
+    }
+    list.set(span, mode)
 }
 
 /// A list of the run, if there is one, and with its room, in which the mode is set.
