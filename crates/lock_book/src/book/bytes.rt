@@ -1,6 +1,6 @@
 //! Setting, reserving and releasing byte locks.
 ghost use Rattle.std.specs.Prelude.{◌≡◌, ◌≤◌, ◌+◌, ◌↔◌, None, IsTrue, IsOk, OnOk, OnErr};
-ghost use Rattle.range_core.specs.Ranges.{IsByteRange, SplitsRun};
+ghost use Rattle.range_core.specs.Ranges.{IsByteRange, IsConstant, SplitsRun};
 ghost use Rattle.lock_book.specs.OwnerLists.{IsIdle};
 ghost use Rattle.lock_book.specs.Books.{byte_modes_of, room_in, ClearsOwner, ReleasesOwner, SameBook, SameButRoom, SetsOwnerMode};
 
@@ -13,12 +13,13 @@ impl Book {
     /// Sets the owner's mode on just the bytes of the span, or removes it where `mode` is `None`; the owner's room stays
     /// (POSIX.1-2017 fcntl, `F_SETLK`; fcntl_locking(2), `F_OFD_SETLK`). No conflict is looked for.
     ///
-    /// `Memory`, which never comes where an unlock splits no run of the owner, leaves the book as it was.
+    /// `Memory`, which never comes where an unlock splits no run of the owner or a lock is there already, leaves the book as it was.
     pub fn set(&mut self, owner: Owner, span: Span, mode: Option<Mode>) -> Result<(), Memory>
         requires { IsByteRange span }
         ensures ok { OnOk result (SetsOwnerMode self.old self.new owner span mode) }
         ensures room { OnOk result (room_in self.old owner ≤ room_in self.new owner) }
         ensures unlock { mode ≡ None → (¬ SplitsRun (byte_modes_of self.old owner) span) → IsOk result }
+        ensures again { (wanted : Mode) → mode ≡ Some wanted → IsConstant (byte_modes_of self.old owner) span wanted → IsOk result }
         ensures err { OnErr result (SameBook self.old self.new) }
     {
         self.index.prepare_set(self.alloc, &self.owners, mode);

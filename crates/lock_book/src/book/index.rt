@@ -97,7 +97,10 @@ impl OwnersIndex {
         requires { IsByteRange span }
         ensures { IsTrue result → (byte : ℕ) → Covers span byte → modes_of list.now byte ≡ mode }
     {
-        self.runs.is_some() && list.has_already(span, mode)
+        match mode {
+            Some(wanted) => self.runs.is_some() && list.has_already(span, wanted),
+            None => false,
+        }
     }
 
     /// Takes out the runs of the owner that share a byte with the span or lie right beside it, but for the first, where another

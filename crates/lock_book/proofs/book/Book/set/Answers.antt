@@ -1,6 +1,6 @@
 use Rattle.lock_book.proofs.Common.{common_steps, ◌≡◌, ◌∙◌, ap, sym, subst, true, refl, Some, None, Option, arith, if◌then◌else◌, Mode, is_covered, modes_of, OwnerRuns, modes_in_list, byte_modes_of, modes_among}
 use Rattle.range_core.specs.Changes.{SetsMode}
-use Rattle.range_core.specs.Ranges.{SplitsRun}
+use Rattle.range_core.specs.Ranges.{IsConstant, SplitsRun}
 use Rattle.lock_book.proofs.BookLemmas.{room_kept, list_of-lent, list_of-not_lent, list_written, PutsAt-adds, PutsAt-removes, PutsList-puts, SetsOwnerMode-puts, SameBook-puts, in_use_by_mode, still_in_use}
 use Rattle.lock_book.proofs.KeptLemmas.{AreKept-left, AreKept-list, AreKept-removed, already_set, indexed_added, indexed_set, indexed_again, kept_same, modes_was, none_kept}
 use Rattle.std.proofs.lemmas.Bool.{false≢true}
@@ -124,6 +124,15 @@ returns-in-Err-clause-unlock c unlock whole =
     let owners = c.get_mut.follows.lender list in
     let written = list_written book owners c.args.owner _ _ list c.get_mut.ensures.value c.in-Some.is (c.get_mut.follows.holds list) in
     absurd (false≢true (c.in-Err.ensures.unlock unlock (λ splits. whole (subst (λ (l : Option OwnerRuns). SplitsRun (modes_in_list l) c.args.span) (sym written.0) splits))))
+
+pub returns-in-Err-clause-again : goal.returns-in-Err-clause-again
+unfolding byte_modes_of
+returns-in-Err-clause-again c wanted is constant =
+    let book = c.args.self.now in
+    let list = c.set.new.self in
+    let owners = c.get_mut.follows.lender list in
+    let written = list_written book owners c.args.owner _ _ list c.get_mut.ensures.value c.in-Some.is (c.get_mut.follows.holds list) in
+    c.in-Err.ensures.again wanted is (subst (λ (l : Option OwnerRuns). IsConstant (modes_in_list l) c.args.span wanted) written.0 constant)
 
 pub returns-else-is_idle-clause-room : goal.returns-else-is_idle-clause-room
 returns-else-is_idle-clause-room c =
