@@ -1,5 +1,5 @@
 //! The files on which each owner has something.
-ghost use Rattle.std.specs.Prelude.{◌≡◌, ◌<◌, ◌≤◌, ℕ, true, false, IfSome, IfNone, IsTrue, IsOk, None, OnOk, OnErr};
+ghost use Rattle.std.specs.Prelude.{◌≡◌, ◌<◌, ◌≤◌, ℕ, true, false, IfSome, IfNone, IsTrue, IsOk, None, OnOk, OnErr, Option};
 ghost use Rattle.std.specs.BTreeMap.Range.{IsFromStart, IsLeBy};
 ghost use Rattle.lock_server.specs.HoldingsView.{behind as behind_of};
 
@@ -25,7 +25,7 @@ pub struct Holdings {
 #[tactic(auto, unfolding(crate::specs::HoldingsView::keeps, crate::specs::HoldingsView::size))]
 impl Holdings {
     ghost use Rattle.lock_server.specs.Clients.{ForgetsSeen, is_within};
-    ghost use Rattle.lock_server.specs.HoldingsView.{keeps, Keeps, keeps_pair, KeepsIf, pair_cmp, SameHoldings, size, Tidies, TidiesIf};
+    ghost use Rattle.lock_server.specs.HoldingsView.{AreKept, keeps, Keeps, keeps_pair, KeepsIf, pair_cmp, SameHoldings, size, Tidies, TidiesIf};
     ghost use Rattle.lock_server.specs.OpeningsView.{IsAbove, through_at};
     ghost use Rattle.lock_server.specs.TableView.{table_state};
 
@@ -49,18 +49,25 @@ impl Holdings {
         Ok(())
     }
 
-    /// The owner is kept with the file, where it is to be given a lock of this mode; an unlock takes no memory.
+    /// The owner is kept with the file, where it is to be given a lock of this mode: who has a byte lock there is kept with it already, and
+    /// an unlock changes nothing.
     ///
     /// `Memory` leaves all as it was.
-    pub fn enter_for(&mut self, owner: u64, file: u64, mode: Option<Mode>) -> Result<(), Memory>
-        ensures ok { OnOk result (KeepsIf mode self.old self.new owner file) }
+    pub fn enter_for(
+        &mut self,
+        table: &Table,
+        owner: u64,
+        file: u64,
+        mode: Option<Mode>,
+    ) -> Result<(), Memory>
+        ensures ok { OnOk result ((through : ℕ → ℕ → Option ℕ) → AreKept self.old (table_state table.now) through → KeepsIf mode self.old self.new owner file) }
         ensures unlock { mode ≡ None → IsOk result }
         ensures err { OnErr result (SameHoldings self.old self.new) }
     {
-        match mode {
-            Some(_) => self.enter(owner, file),
-            None => Ok(()),
+        if mode.is_none() || table.has_byte_lock(file, owner) {
+            return Ok(());
         }
+        self.enter(owner, file)
     }
 
     /// The owner isn't kept with the file any more. It takes no memory.

@@ -91,7 +91,7 @@ impl LockFile {
     }
 
     /// Whether the owner has a byte lock.
-    pub(super) fn has_byte_lock(&self, owner: u64) -> bool
+    pub fn has_byte_lock(&self, owner: u64) -> bool
         ensures { IsTrue result ↔ HasByteLock (file_state self.now) owner }
     {
         match self.book.list(Owner::Description(owner)) {

@@ -35,7 +35,7 @@ impl Holdings {
         ensures swept { OnErr result (IsSwept table.old file → IsSwept table.new file) }
         ensures others { KeepsOthers table.old table.new file }
     {
-        self.enter_for(owner, file, mode)?;
+        self.enter_for(table, owner, file, mode)?;
         match table.set(file, owner, span, mode) {
             Ok(()) => Ok(()),
             Err(memory) => {

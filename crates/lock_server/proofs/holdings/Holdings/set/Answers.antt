@@ -9,7 +9,7 @@ returns-in_err-enter_for-clause-kept c kept =
 pub returns-in-Ok-clause-kept : goal.returns-in-Ok-clause-kept
 returns-in-Ok-clause-kept c kept =
     kept_set_if c.args.self.now c.enter_for.new.self (through_at c.args.openings.now) (table_state c.args.table.now) c.args.file c.args.owner c.args.span c.args.mode
-    (table_state c.set.new.self) c.in_ok-enter_for.ensures.ok c.in-Ok.ensures.ok kept
+    (table_state c.set.new.self) (c.in_ok-enter_for.ensures.ok (through_at c.args.openings.now) kept) c.in-Ok.ensures.ok kept
 
 pub returns-in-Err-clause-kept : goal.returns-in-Err-clause-kept
 returns-in-Err-clause-kept c kept =
@@ -18,4 +18,4 @@ returns-in-Err-clause-kept c kept =
     let T = table_state c.set.new.self in
     kept_tidied c.enter_for.new.self c.tidy.new.self T through c.args.owner c.args.file c.tidy.ensures
     (kept_same c.enter_for.new.self through S T c.in-Err.ensures.err
-    (kept_entered_if c.args.self.now c.enter_for.new.self S through c.args.owner c.args.file c.args.mode c.in_ok-enter_for.ensures.ok kept))
+    (kept_entered_if c.args.self.now c.enter_for.new.self S through c.args.owner c.args.file c.args.mode (c.in_ok-enter_for.ensures.ok (through_at c.args.openings.now) kept) kept))
