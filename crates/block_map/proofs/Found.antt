@@ -1,6 +1,7 @@
 -- What a binary search finds among rising keys, and what is done there.
 use Rattle.std.proofs.Common.{◌≡◌, ℕ, ◌<◌, ◌≤◌, zero, suc, true, false, cond, List, [], ◌∷◌, Some, None, length, slice_index_or, slice_set, MatchResult, refl, sym, ap, ◌∙◌}
 use native.Mathlib.Omega.{arith}
+use Rattle.std.specs.Prelude.{is_ok, is_some, IsSome}
 use Rattle.std.specs.List.{AllByRecursion, AllWithin, HoldsAt, insert, remove}
 use Rattle.std.specs.List.Sorted.{IsBinarySearchResult, IsNonDecreasingBy, IsSearchInRange}
 use Rattle.std.specs.Map.{keys_of, lookup, remove_entry, set_value}
@@ -117,6 +118,13 @@ module _ {K X : Type 0} {cmp : K → K → Ordering} (o : IsTotalOrder cmp) wher
   found_value key [] place d found = absurd found
   found_value key (e ∷ es) zero d found = ap (λ b. cond b (Some e.1) (lookup (is_at (cmp key)) es)) (is_here key e found)
   found_value key (e ∷ es) (suc place) d found = ap (λ b. cond b (Some e.1) (lookup (is_at (cmp key)) es)) (comes_before key e found.0) ∙ found_value key es place d found.1
+
+  -- so a key that the search finds has one
+  pub found_there : (key : K) (es : List (K × X)) (result : Result ℕ ℕ) → MatchResult result (IsFoundAt cmp key es) (IsMissingAt cmp key es) → is_ok result ≡ true
+      → IsSome (lookup (is_at (cmp key)) es)
+  found_there key [] (Ok place) found is = absurd found
+  found_there key (e ∷ es) (Ok place) found is = ap is_some (found_value key (e ∷ es) place e found)
+  found_there key es (Err place) missing is = absurd (let no : false ≡ true = is in cc)
 
   -- another value is set there
   pub found_set : (key : K) (value : X) (es : List (K × X)) (place : ℕ) (d : K × X) → IsFoundAt cmp key es place

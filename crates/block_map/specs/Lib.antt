@@ -1,4 +1,5 @@
 pub mod Blocks
 pub mod Kept
 pub mod Lending
+pub mod Sizes
 pub mod Updates

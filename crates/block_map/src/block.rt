@@ -1,5 +1,5 @@
 //! Entries whose keys lie side by side, apart from their values.
-ghost use Rattle.std.specs.Prelude.{◌≡◌, ◌^◌, ◌<◌, ◌≤◌, [], IfSome, IfOk, OnErr, OnOk, length, take, drop, true, ◌↔◌, MatchResult};
+ghost use Rattle.std.specs.Prelude.{◌≡◌, ◌^◌, ◌<◌, ◌≤◌, ◌⊎◌, [], IfNone, IfSome, IsSome, IfOk, OnErr, OnOk, length, take, drop, true, ◌↔◌, MatchResult};
 ghost use Rattle.std.specs.Borrow.{sem};
 ghost use Rattle.std.specs.Map.{lookup, remove_entry};
 ghost use Rattle.std.specs.BTreeMap.{insert_entry, is_at};
@@ -40,6 +40,7 @@ impl<K: Ord + Copy, V> Model for Block<K, V> {
 impl<K: Ord + Copy, V: Drop> Block<K, V> {
     ghost use Rattle.block_map.specs.Blocks.{AreRising, IsFoundAt, IsMissingAt};
     ghost use Rattle.block_map.specs.Lending.{LendsAt};
+    ghost use Rattle.block_map.specs.Sizes.{block_size};
 
     /// No entry. It takes no memory.
     pub(crate) fn new(alloc: Global) -> Self
@@ -135,7 +136,8 @@ impl<K: Ord + Copy, V: Drop> Block<K, V> {
     /// Where the key belongs behind all, only the last entry goes, so that keys that rise leave full blocks behind.
     #[tactic(auto, using(crate::proofs::Zipped::as_many))]
     pub(crate) fn place_to_split(&self, key: K) -> Option<usize>
-        ensures { IfSome result (λ place. (0 < place) × (place < length self.now)) }
+        ensures some { IfSome result (λ place. (0 < place) × (place < length self.now)) }
+        ensures none { IfNone result ((length self.now < block_size) ⊎ IsSome (lookup (is_at (K.cmp key)) self.now)) }
     {
         let len = self.keys.len();
         if len < BLOCK || self.place_of(key).is_ok() {

@@ -11,3 +11,4 @@ pub mod PieceLemmas
 pub mod RunLemmas
 pub mod TouchingLemmas
 pub mod Views
+pub mod WriteLemmas

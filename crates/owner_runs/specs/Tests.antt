@@ -1,7 +1,7 @@
 -- Tests of runs.
-use Rattle.std.specs.Prelude.{◌≡◌, ℕ, Bool, true, false, ◌&&◌, List}
+use Rattle.std.specs.Prelude.{◌≡◌, ℕ, ◌-◌, ◌^◌, Bool, true, false, ◌&&◌, List, min}
 use Rattle.std.specs.Bool.{nat_le}
-use Rattle.std.specs.List.{list_any}
+use Rattle.std.specs.List.{count_by}
 use Rattle.range_core.specs.declared.Mode.{Mode}
 use Rattle.range_core.specs.declared.Mode.TheVariants.{Read, Write}
 use Rattle.range_core.specs.declared.Span.{Span}
@@ -25,6 +25,10 @@ modes_conflict Read Read = false
 abbrev pub conflicts : Mode → Mode × Span → Bool
 conflicts wanted run = modes_conflict wanted run.0
 
--- it is told whether some run is a write lock
-abbrev pub HasWrite : Writes → List (Mode × Span) → Type 0
-HasWrite writes runs = writes.some ≡ list_any (conflicts Read) runs
+-- how many runs are write locks
+abbrev pub count_writes : List (Mode × Span) → ℕ
+count_writes runs = count_by (conflicts Read) runs
+
+-- it is told how many runs are write locks; the greatest number stands for all beyond it too
+abbrev pub CountsWrites : Writes → List (Mode × Span) → Type 0
+CountsWrites writes runs = writes.count ≡ min (count_writes runs) (2 ^ 32 - 1)

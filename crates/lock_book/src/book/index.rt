@@ -1,8 +1,8 @@
 //! The runs of all owners of a file together, where there are many owners.
-ghost use Rattle.std.specs.Prelude.{ℕ, ◌≡◌, ◌≢◌, ◌&&◌, ◌||◌, Bool, true, not, IsTrue, IfSome, None, List, All};
+ghost use Rattle.std.specs.Prelude.{ℕ, ◌≡◌, ◌≢◌, ◌&&◌, ◌||◌, Bool, true, not, IsTrue, IfSome, None, Some, List, All};
 ghost use Rattle.std.specs.List.{find};
 ghost use Rattle.owner_runs.specs.declared.owner_runs.OwnerRuns.{OwnerRuns};
-ghost use Rattle.range_core.specs.Ranges.{Covers, IsByteRange, IsRun};
+ghost use Rattle.range_core.specs.Ranges.{Covers, IsByteRange, IsConstant, IsRun};
 ghost use Rattle.owner_runs.specs.Lists.{modes_of};
 ghost use Rattle.interval_index.specs.declared.Run.{Run};
 ghost use Rattle.interval_index.specs.Standing.{AreRunsOf, HolderModes};
@@ -95,7 +95,8 @@ impl OwnersIndex {
     /// Whether there is an index, of which a set leaves all runs as they are, since the list has the mode on each byte of the span already.
     pub fn stays(&self, list: &OwnerRuns, span: Span, mode: Option<Mode>) -> bool
         requires { IsByteRange span }
-        ensures { IsTrue result → (byte : ℕ) → Covers span byte → modes_of list.now byte ≡ mode }
+        ensures same { IsTrue result → (byte : ℕ) → Covers span byte → modes_of list.now byte ≡ mode }
+        ensures told { (wanted : Mode) → mode ≡ Some wanted → self.now.runs ≢ None → IsConstant (modes_of list.now) span wanted → IsTrue result }
     {
         match mode {
             Some(wanted) => self.runs.is_some() && list.has_already(span, wanted),

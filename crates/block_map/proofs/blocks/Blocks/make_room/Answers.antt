@@ -6,4 +6,4 @@ use Rattle.block_map.proofs.blocks.Blocks.make_room.Goals as goal
 pub split-requires-clause-place : goal.split-requires-clause-place
 split-requires-clause-place g c =
     subst (λ block. HasPlace block c.in-Some.place)
-    (ap Some c.block_for-bound.ensures.block ∙ sym (placed g.met.K.Ord.total c.args.key c.args.self.now c.block_for-bound.result.0 c.requires.1 c.block_for-bound.ensures.bound)) c.in-Some.ensures
+    (ap Some c.block_for-bound.ensures.block ∙ sym (placed g.met.K.Ord.total c.args.key c.args.self.now c.block_for-bound.result.0 c.requires.1 c.block_for-bound.ensures.bound)) c.in-Some.ensures.some

@@ -160,7 +160,7 @@ returns-then-stays-clause-ok c =
     let owners = c.get_mut.follows.lender list in
     let written = list_written book owners c.args.owner _ _ list c.get_mut.ensures.value c.in-Some.is (c.get_mut.follows.holds list) in
     SetsOwnerMode-puts book _ c.args.owner (Some list) (Some list) _ _ (PutsList-puts book _ _ _ refl written.1) written.0
-    (already_set (modes_of list) c.args.span c.args.mode (c.stays.ensures c.if-stays.true))
+    (already_set (modes_of list) c.args.span c.args.mode (c.stays.ensures.same c.if-stays.true))
 
 pub returns-then-stays-clause-room : goal.returns-then-stays-clause-room
 returns-then-stays-clause-room c =
