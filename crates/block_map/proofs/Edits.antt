@@ -1,13 +1,13 @@
 -- What an entry's coming, going and change pass by.
-use Rattle.std.proofs.Common.{◌≡◌, Bool, true, false, cond, List, [], ◌∷◌, ◌++◌, refl, ap, ◌∙◌}
-use Rattle.std.specs.Map.{remove_entry, set_value}
+use Rattle.std.proofs.Common.{◌≡◌, Bool, true, false, cond, List, [], ◌∷◌, ◌++◌, Some, None, refl, sym, ap, ◌∙◌}
+use Rattle.std.specs.Map.{lookup, remove_entry, set_value}
 use Rattle.std.specs.BTreeMap.{insert_entry, is_at}
 use Rattle.std.specs.Cmp.{IsTotalOrder}
-use Rattle.std.specs.Ordering.{match_ordering}
+use Rattle.std.specs.Ordering.{is_eq, match_ordering}
 use Rattle.std.specs.declared.cmp.Ordering.{Ordering}
 use Rattle.std.specs.declared.cmp.Ordering.TheVariants.{Less, Equal, Greater}
-use Rattle.block_map.specs.Blocks.{AreBefore}
-use Rattle.block_map.proofs.Parts.{AreBehind, IsEditAt, less_back, not_at_before, not_at_behind}
+use Rattle.block_map.specs.Blocks.{AreBefore, AreRising}
+use Rattle.block_map.proofs.Parts.{all_like, AreBehind, IsEditAt, less_back, none_behind, not_at_before, not_at_behind}
 
 module _ {K X : Type 0} {cmp : K → K → Ordering} (o : IsTotalOrder cmp) where
   insert_skips : (key : K) (value : X) (xs ys : List (K × X)) → AreBefore cmp key xs → insert_entry cmp (xs ++ ys) key value ≡ xs ++ insert_entry cmp ys key value
@@ -35,6 +35,22 @@ module _ {K X : Type 0} {cmp : K → K → Ordering} (o : IsTotalOrder cmp) wher
   -- an entry that comes
   pub insert_edit : (key : K) (value : X) → IsEditAt o key (λ (es : List (K × X)). insert_entry cmp es key value)
   insert_edit key value = record { skips = insert_skips key value; stays = insert_stays key value }
+
+  -- where the key has one, its value is set
+  pub set_inserts : (key : K) (value old : X) (es : List (K × X)) → AreRising cmp es → lookup (is_at (cmp key)) es ≡ Some old
+      → set_value (is_at (cmp key)) es value ≡ insert_entry cmp es key value
+  set_inserts key value old [] rising found = absurd (let no : None ≡ Some old = found in cc)
+  set_inserts key value old (e ∷ es) rising found = by (cmp key e.0) refl found (set_inserts key value old es rising.1)
+    where
+      by : (r : Ordering) → cmp key e.0 ≡ r → cond (is_eq r) (Some e.1) (lookup (is_at (cmp key)) es) ≡ Some old
+          → (lookup (is_at (cmp key)) es ≡ Some old → set_value (is_at (cmp key)) es value ≡ insert_entry cmp es key value)
+          → cond (is_eq r) ((e.0, value) ∷ es) (e ∷ set_value (is_at (cmp key)) es value)
+          ≡ match_ordering r ((key, value) ∷ e ∷ es) ((e.0, value) ∷ es) (e ∷ insert_entry cmp es key value)
+      by Less at found rest =
+          let behind = all_like (λ f. cmp e.0 f.0 ≡ Less) (λ f. cmp key f.0 ≡ Less) es (λ f less. o.trans key e.0 f.0 at less) rising.0 in
+          absurd (let no : None ≡ Some old = sym (none_behind o key es behind) ∙ found in cc)
+      by Equal at found rest = refl
+      by Greater at found rest = ap (λ fs. e ∷ fs) (rest found)
 
   remove_skips : (key : K) (xs ys : List (K × X)) → AreBefore cmp key xs → remove_entry (is_at (cmp key)) (xs ++ ys) ≡ xs ++ remove_entry (is_at (cmp key)) ys
   remove_skips key [] ys before = refl

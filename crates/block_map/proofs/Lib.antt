@@ -5,6 +5,7 @@ pub mod Found
 pub mod Kept
 pub mod Parts
 pub mod Placed
+pub mod Places
 pub mod Ranges
 pub mod Rising
 pub mod Splits

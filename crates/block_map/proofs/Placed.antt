@@ -11,6 +11,7 @@ use Rattle.std.specs.declared.ops.Bound.TheVariants.{Included, Unbounded}
 use Rattle.std.specs.declared.cmp.Ordering.{Ordering}
 use Rattle.std.specs.declared.cmp.Ordering.TheVariants.{Less, Equal, Greater}
 use Rattle.block_map.specs.Blocks.{entries_of, AreBounded, AreParted, block_for, bound_for, with_block}
+use Rattle.block_map.specs.Places.{last_bound}
 use Rattle.block_map.proofs.Parts.{greater_back, not_at_before}
 use Rattle.block_map.proofs.Rising.{keys_set}
 
@@ -132,11 +133,6 @@ module _ {K X : Type 0} {cmp : K → K → Ordering} (o : IsTotalOrder cmp) wher
       (ap (λ b. not b) (ap is_lt behind))
       ∙ none_within key bound blocks less bounded.1
 
-  -- the bound of the last block of some, if there is one
-  abbrev pub last_bound : List (K × List (K × X)) → Option K
-  last_bound [] = None
-  last_bound (block ∷ blocks) = Some (unwrap_or (last_bound blocks) block.0)
-
   last_bound_at : (key : K) (block : K × List (K × X)) (blocks : List (K × List (K × X))) → AreBounded cmp block.0 blocks → (b : Bool) → is_gt (cmp block.0 key) ≡ b
       → last_bound (entries_between cmp Unbounded (Included key) blocks) ≡ bound_for cmp key blocks
       → last_bound (cond (not b) (block ∷ entries_between cmp Unbounded (Included key) blocks) (entries_between cmp Unbounded (Included key) blocks)) ≡ cond b None (Some (unwrap_or (bound_for cmp key blocks) block.0))
@@ -150,18 +146,3 @@ module _ {K X : Type 0} {cmp : K → K → Ordering} (o : IsTotalOrder cmp) wher
   last_within key first (block ∷ blocks) parted =
       ap (λ b. last_bound (cond b (block ∷ entries_between cmp Unbounded (Included key) blocks) (entries_between cmp Unbounded (Included key) blocks))) (within o key block.0)
       ∙ last_bound_at key block blocks parted.2 (is_gt (cmp block.0 key)) refl (last_within key block.1 blocks parted.3)
-
-  -- the last block of some
-  pub last_of : (blocks : List (K × List (K × X))) (block : K × List (K × X)) → last_bound (blocks ++ block ∷ []) ≡ Some block.0
-  last_of [] block = refl
-  last_of (other ∷ blocks) block = ap (λ last. Some (unwrap_or last other.0)) (last_of blocks block)
-
-  -- so the key's bound is the last of that range
-  pub last_is : (key : K) (first : List (K × X)) (blocks range rest : List (K × List (K × X))) (block : K × List (K × X)) → AreParted cmp first blocks
-      → range ≡ entries_between cmp Unbounded (Included key) blocks → range ≡ rest ++ block ∷ [] → Some block.0 ≡ bound_for cmp key blocks
-  last_is key first blocks range rest block parted is parts = sym (last_of rest block) ∙ (ap last_bound (sym parts) ∙ (ap last_bound is ∙ last_within key first blocks parted))
-
-  -- and there is none where nothing is in that range
-  pub none_is : (key : K) (first : List (K × X)) (blocks range : List (K × List (K × X))) → AreParted cmp first blocks
-      → range ≡ entries_between cmp Unbounded (Included key) blocks → range ≡ [] → None ≡ bound_for cmp key blocks
-  none_is key first blocks range parted is none = ap last_bound (sym none) ∙ (ap last_bound is ∙ last_within key first blocks parted)

@@ -13,7 +13,8 @@ use Rattle.std.specs.declared.cmp.Ordering.TheVariants.{Less, Equal, Greater}
 use Rattle.std.specs.declared.ops.Bound.{Bound}
 use Rattle.std.specs.declared.ops.Bound.TheVariants.{Excluded, Included, Unbounded}
 use Rattle.block_map.specs.Blocks.{AreBefore, AreBounded, AreParted, AreRising, bound_for, bound_from, entries_of, IsFoundAt, IsMissingAt}
-use Rattle.block_map.specs.Kept.{behind_bound, block_at, entries_in}
+use Rattle.block_map.specs.Kept.{block_at, entries_in}
+use Rattle.block_map.specs.Places.{behind_bound}
 use Rattle.block_map.specs.declared.blocks.Blocks.{Blocks}
 use Rattle.block_map.proofs.Kept.{is_there}
 use Rattle.block_map.proofs.Parts.{behind_bound as all_behind_bound, greater_back, less_back, less_upto, not_at_before}

@@ -338,7 +338,8 @@ module _ {K X : Type 0} {cmp : K → K → Ordering} (o : IsTotalOrder cmp) wher
       let done = ended bound at place es old mid cut end s sets first others in
       (done.0, (subst (AreRising cmp) (sym done.0) s.order.0, done.1))
 
-  no_bound : (bound : Option K) (at : K) (place : ℕ) (es : List (K × X)) (old mid : Blocks K X) → Splits bound at place es old mid → lookup (is_at (cmp at)) old.others.entries ≡ None
+  -- no block stands behind the key there
+  pub no_bound : (bound : Option K) (at : K) (place : ℕ) (es : List (K × X)) (old mid : Blocks K X) → Splits bound at place es old mid → lookup (is_at (cmp at)) old.others.entries ≡ None
   no_bound None at place es old mid s =
       let is : old.first ≡ es = (let q : Some old.first ≡ Some es = s.block in cc) in
       none_behind o at old.others.entries (bounded_cut at place es old.others.entries (cut_of None at place es old mid s) (subst (λ f. AreParted cmp f old.others.entries) is s.order.1))

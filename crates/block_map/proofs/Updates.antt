@@ -1,14 +1,17 @@
 -- What a look-up finds where an entry came or went.
-use Rattle.std.proofs.Common.{◌≡◌, Bool, true, false, cond, List, [], ◌∷◌, Some, None, refl, sym, ap, ◌∙◌}
+use Rattle.std.proofs.Common.{◌≡◌, Bool, true, false, cond, List, [], ◌∷◌, Some, None, refl, sym, ap, subst, ◌∙◌}
 use Rattle.std.specs.List.{AllByRecursion}
 use Rattle.std.specs.List.Sorted.{IsStrictlySortedBy}
 use Rattle.std.specs.Map.{keys_of, lookup, remove_entry}
 use Rattle.std.specs.BTreeMap.{insert_entry, is_at}
 use Rattle.std.specs.Cmp.{IsTotalOrder, alike_right}
+use Rattle.std.specs.Prelude.{IfOk, is_some, not, OnOk}
+use Rattle.std.specs.declared.result.Result.{Result}
+use Rattle.std.specs.declared.result.Result.TheVariants.{Ok, Err}
 use Rattle.std.specs.Ordering.{is_eq, ordering_reverse}
 use Rattle.std.specs.declared.cmp.Ordering.{Ordering}
 use Rattle.std.specs.declared.cmp.Ordering.TheVariants.{Less, Equal, Greater}
-use Rattle.block_map.specs.Blocks.{AreRising}
+use Rattle.block_map.specs.Blocks.{AreRising, with_new}
 use Rattle.block_map.specs.Updates.{Updates}
 use Rattle.block_map.proofs.Splits.{lookup_apart, lookup_inserted}
 
@@ -44,6 +47,17 @@ module _ {K X : Type 0} {cmp : K → K → Ordering} (o : IsTotalOrder cmp) wher
       by : (b : Bool) → is_at (cmp key) other ≡ b → lookup (is_at (cmp other)) (insert_entry cmp es key value) ≡ cond b (Some value) (lookup (is_at (cmp other)) es)
       by true is = lookup_alike o key other (insert_entry cmp es key value) (equal_at o key other is) ∙ lookup_inserted o key value es
       by false is = lookup_apart o key other value es (sym (alike o key other) ∙ is)
+
+  -- and one that is told to be new
+  pub new_updates : {E : Type 0} (key : K) (value : X) (old new : List (K × X)) (result : Result Bool E)
+      → IfOk result (λ is_new. is_new ≡ not (is_some (lookup (is_at (cmp key)) old))) → OnOk result (new ≡ with_new cmp old key value)
+      → IfOk result (λ is_new. is_new ≡ true → Updates cmp old new key (Some value))
+  new_updates key value old new (Ok is_new) told is = λ so. by (is_some (lookup (is_at (cmp key)) old)) refl (sym told ∙ so)
+    where
+      by : (b : Bool) → is_some (lookup (is_at (cmp key)) old) ≡ b → not (is_some (lookup (is_at (cmp key)) old)) ≡ true → Updates cmp old new key (Some value)
+      by true has none = absurd (let no : false ≡ true = sym (ap not has) ∙ none in cc)
+      by false has none = subst (λ es. Updates cmp old es key (Some value)) (sym (is ∙ ap (λ b. cond b old (insert_entry cmp old key value)) has)) (insert_updates key value old)
+  new_updates key value old new (Err e) told is = tt
 
   -- behind a key none is it
   none_behind_it : (key : K) (e : K × X) (es : List (K × X)) → cmp key e.0 ≡ Equal → AllByRecursion (λ f. cmp e.0 f.0 ≡ Less) es → lookup (is_at (cmp key)) es ≡ None

@@ -1,5 +1,5 @@
 -- What is done to keys and to values is done to the entries.
-use Rattle.std.proofs.Common.{◌≡◌, ℕ, ◌-◌, ◌<◌, zero, suc, List, [], ◌∷◌, Some, length, slice_index_or, slice_set, take, drop, take_all, length-drop, length-set, length-take, refl, sym, ap, subst, ◌∙◌}
+use Rattle.std.proofs.Common.{◌≡◌, ℕ, ◌-◌, ◌<◌, zero, suc, cond, List, [], ◌∷◌, is_some, Some, length, slice_index_or, slice_set, take, drop, take_all, length-drop, length-set, length-take, refl, sym, ap, subst, ◌∙◌}
 use native.Mathlib.Omega.{arith}
 use Rattle.std.specs.List.{AllByRecursion, insert, remove, zip}
 use Rattle.std.specs.Map.{lookup, remove_entry, set_value}
@@ -7,8 +7,8 @@ use Rattle.std.specs.BTreeMap.{insert_entry, is_at}
 use Rattle.std.specs.Cmp.{IsTotalOrder}
 use Rattle.std.specs.declared.cmp.Ordering.{Ordering}
 use Rattle.std.specs.declared.cmp.Ordering.TheVariants.{Less}
-use Rattle.block_map.specs.Blocks.{AreKept, AreRising, IsFoundAt, IsMissingAt}
-use Rattle.block_map.proofs.Found.{found_below, found_insert, found_remove, found_set, found_value, missing_insert}
+use Rattle.block_map.specs.Blocks.{AreKept, AreRising, IsFoundAt, IsMissingAt, with_new}
+use Rattle.block_map.proofs.Found.{found_below, found_remove, found_set, found_value, missing_insert, missing_value}
 use Rattle.block_map.proofs.Rising.{drop_rises, insert_rises, remove_rises, set_rises, take_rises}
 
 -- a part up to the end is what stands from its start on
@@ -135,17 +135,14 @@ module _ {K X : Type 0} {cmp : K → K → Ordering} (o : IsTotalOrder cmp) (key
       let is = found_set o key value (zip ks vs) place (key, value) found ∙ set_there ks vs place (key, value) value in
       ((length-set vs place value ∙ kept.0, subst (AreRising cmp) is (set_rises cmp (is_at (cmp key)) (zip ks vs) value kept.1)), sym is)
 
-  -- and so it is where it is said to come there
-  pub replaced : (value : X) → IsFoundAt cmp key (zip ks vs) place → zip ks (slice_set vs place value) ≡ insert_entry cmp (zip ks vs) key value
-  replaced value found = sym (found_insert o key value (zip ks vs) place (key, value) found ∙ set_there ks vs place (key, value) value)
-
   -- where the key has no entry, one comes
   pub inserted : (value : X) → IsMissingAt cmp key (zip ks vs) place
-      → AreKept cmp (insert ks place key) (insert vs place value) × (zip (insert ks place key) (insert vs place value) ≡ insert_entry cmp (zip ks vs) key value)
+      → AreKept cmp (insert ks place key) (insert vs place value) × (zip (insert ks place key) (insert vs place value) ≡ with_new cmp (zip ks vs) key value)
   inserted value missing =
       let there = insert_there ks vs place key value kept.0 in
       let is = missing_insert o key value (zip ks vs) place missing ∙ there.1 in
-      ((there.0, subst (AreRising cmp) is (insert_rises o (zip ks vs) key value kept.1)), sym is)
+      let none = ap (λ found. cond (is_some found) (zip ks vs) (insert_entry cmp (zip ks vs) key value)) (missing_value o key (zip ks vs) place missing) in
+      ((there.0, subst (AreRising cmp) is (insert_rises o (zip ks vs) key value kept.1)), sym (none ∙ is))
 
   -- the key's entry goes
   pub removed : IsFoundAt cmp key (zip ks vs) place

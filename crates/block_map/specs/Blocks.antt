@@ -1,6 +1,8 @@
 -- Entries in order, and in blocks, each behind its bound.
-use Rattle.std.specs.Prelude.{◌≡◌, ℕ, zero, suc, false, cond, ⊤, Option, Some, None, unwrap_or, List, [], ◌∷◌, ◌++◌, length}
+use Rattle.std.specs.Prelude.{◌≡◌, ℕ, zero, suc, false, cond, ⊤, Option, Some, None, is_some, unwrap_or, List, [], ◌∷◌, ◌++◌, length}
 use Rattle.std.specs.List.{AllByRecursion, zip}
+use Rattle.std.specs.Map.{lookup}
+use Rattle.std.specs.BTreeMap.{insert_entry, is_at}
 use Rattle.std.specs.Ordering.{is_gt}
 use Rattle.std.specs.declared.cmp.Ordering.{Ordering}
 use Rattle.std.specs.declared.ops.Bound.{Bound}
@@ -33,6 +35,10 @@ module _ {K X : Type 0} (cmp : K → K → Ordering) where
   IsMissingAt key es zero = AllByRecursion (λ e. cmp e.0 key ≡ Greater) es
   IsMissingAt key [] (suc place) = ⊥
   IsMissingAt key (e ∷ es) (suc place) = (cmp e.0 key ≡ Less) × IsMissingAt key es place
+
+  -- the entries, with one of this key where it had none
+  abbrev pub with_new : List (K × X) → K → X → List (K × X)
+  with_new es key value = cond (is_some (lookup (is_at (cmp key)) es)) es (insert_entry cmp es key value)
 
   -- each key comes before the bound
   abbrev pub AreBefore : K → List (K × X) → Type 0

@@ -3,19 +3,12 @@ use Rattle.std.specs.Prelude.{◌≡◌, ◌<◌, ℕ, List, ◌++◌, length, O
 use Rattle.std.specs.Map.{lookup, set_value}
 use Rattle.std.specs.BTreeMap.{is_at}
 use Rattle.std.specs.declared.cmp.Ordering.{Ordering}
-use Rattle.std.specs.declared.ops.Bound.{Bound}
-use Rattle.std.specs.declared.ops.Bound.TheVariants.{Excluded, Unbounded}
 use Rattle.block_map.specs.Blocks.{AreParted, AreRising, entries_of}
 use Rattle.block_map.specs.declared.blocks.Blocks.{Blocks}
 
 -- all entries, in order
 abbrev pub entries_in : {K X : Type 0} → Blocks K X → List (K × X)
 entries_in blocks = blocks.first ++ entries_of blocks.others.entries
-
--- where the blocks begin behind that of the bound, or behind the first
-abbrev pub behind_bound : {K : Type 0} → Option K → Bound K
-behind_bound None = Unbounded
-behind_bound (Some bound) = Excluded bound
 
 -- all blocks have the same entries
 abbrev pub SameBlocks : {K X : Type 0} → Blocks K X → Blocks K X → Type 0

@@ -1,19 +1,19 @@
 //! Entries whose keys lie side by side, apart from their values.
-ghost use Rattle.std.specs.Prelude.{◌≡◌, ◌^◌, ◌<◌, ◌≤◌, ◌⊎◌, [], IfNone, IfSome, IsSome, IfOk, OnErr, OnOk, length, take, drop, true, ◌↔◌, MatchResult};
+ghost use Rattle.std.specs.Prelude.{◌≡◌, ◌^◌, ◌<◌, ◌≤◌, ◌⊎◌, [], None, IfNone, IfSome, is_some, IsSome, IfOk, IsOk, OnErr, OnOk, length, not, take, drop, true, ◌↔◌, MatchResult};
 ghost use Rattle.std.specs.Borrow.{sem};
 ghost use Rattle.std.specs.Map.{lookup, remove_entry};
-ghost use Rattle.std.specs.BTreeMap.{insert_entry, is_at};
+ghost use Rattle.std.specs.BTreeMap.{is_at};
 ghost use Rattle.std.specs.List.{HoldsAt};
 ghost use Rattle.std.specs.BTreeMap.Range.{entries_between};
 ghost use Rattle.std.specs.Option.{option_copied, option_copied_mut};
 ghost use Rattle.std.specs.declared.ops.Bound.TheVariants.{Unbounded};
 
-use crate::BLOCK;
 use crate::entries::Entries;
+use crate::{BLOCK, STEP};
 use range_core::Memory;
 use std::alloc::Global;
+use std::cmp::Ordering;
 use std::marker::Model;
-use std::mem;
 use std::ops::Bound;
 
 /// Entries by rising keys.
@@ -38,8 +38,8 @@ impl<K: Ord + Copy, V> Model for Block<K, V> {
 }
 
 impl<K: Ord + Copy, V: Drop> Block<K, V> {
-    ghost use Rattle.block_map.specs.Blocks.{AreRising, IsFoundAt, IsMissingAt};
-    ghost use Rattle.block_map.specs.Lending.{LendsAt};
+    ghost use Rattle.block_map.specs.Blocks.{AreBefore, AreRising, IsFoundAt, IsMissingAt, with_new};
+    ghost use Rattle.block_map.specs.Lending.{LendsHere};
     ghost use Rattle.block_map.specs.Sizes.{block_size};
 
     /// No entry. It takes no memory.
@@ -53,6 +53,8 @@ impl<K: Ord + Copy, V: Drop> Block<K, V> {
     }
 
     /// Where the key's entry stands, or where one would.
+    ///
+    /// It steps over several keys at a time, and then goes key by key: unlike in a binary search, no load waits for another.
     #[tactic(auto, using(crate::proofs::Zipped::as_many))]
     pub(crate) fn place_of(&self, key: K) -> Result<usize, usize>
         ensures within { MatchResult result (λ place. place < length self.now) (λ place. place ≤ length self.now) }
@@ -60,7 +62,28 @@ impl<K: Ord + Copy, V: Drop> Block<K, V> {
         ensures rising { AreRising K.cmp self.now }
         ensures fits { length self.now < 2 ^ 64 }
     {
-        self.keys.binary_search(&key)
+        let mut place = self.stepped_over(key);
+        while place < self.keys.len() {
+            match self.key_at(place).cmp(&key) {
+                Ordering::Less => place += 1,
+                Ordering::Equal => return Ok(place),
+                Ordering::Greater => return Err(place),
+            }
+        }
+        Err(place)
+    }
+
+    /// How many keys can be stepped over, `STEP` at a time: all of them come before the key.
+    #[tactic(auto, using(crate::proofs::Zipped::as_many))]
+    fn stepped_over(&self, key: K) -> usize
+        ensures within { result ≤ length self.now }
+        ensures before { AreBefore K.cmp key (take result self.now) }
+    {
+        let mut place = 0;
+        while place + STEP < self.keys.len() && self.key_at(place + STEP) < key {
+            place += STEP;
+        }
+        place
     }
 
     /// The value of the key.
@@ -74,38 +97,36 @@ impl<K: Ord + Copy, V: Drop> Block<K, V> {
         }
     }
 
-    /// The value at this place, which may be changed: that of whichever key is found there.
+    /// The value of the key, which may be changed.
     #[tactic(auto, using(crate::proofs::Zipped::as_many))]
-    pub(crate) fn value_at(&mut self, place: usize) -> Option<&mut V>
-        ensures* lends { sem 𝓛 (LendsAt K.row V.row K.Ord self.entry place result) }
-        ensures value { (key : K) → IsFoundAt K.cmp key self.old place → option_copied_mut result ≡ lookup (is_at (K.cmp key)) self.old }
+    pub(crate) fn get_mut(&mut self, key: K) -> Option<&mut V>
+        ensures* lends { sem 𝓛 (LendsHere K.row V.row K.Ord self.entry key result) }
+        ensures value { option_copied_mut result ≡ lookup (is_at (K.cmp key)) self.old }
     {
-        if place < self.values.len() {
-            Some(&mut self.values[place])
-        } else {
-            None
+        match self.place_of(key) {
+            Ok(place) => Some(&mut self.values[place]),
+            Err(_) => None,
         }
     }
 
-    /// The key has the value. Where it had another, that is the result.
+    /// The key has the value, where it had none: whether that is so. Where it had one, nothing changes.
     ///
-    /// `Memory` leaves the entries as they were.
+    /// `Memory`, which never comes where it had one, leaves the entries as they were.
     #[tactic(auto, using(crate::proofs::Zipped::as_many))]
-    pub(crate) fn insert(&mut self, key: K, value: V) -> Result<Option<V>, Memory>
-        ensures old { IfOk result (λ old. old ≡ lookup (is_at (K.cmp key)) self.old) }
-        ensures ok { OnOk result (self.new ≡ insert_entry K.cmp self.old key value) }
+    pub(crate) fn insert_new(&mut self, key: K, value: V) -> Result<bool, Memory>
+        ensures told { IfOk result (λ is_new. is_new ≡ not (is_some (lookup (is_at (K.cmp key)) self.old))) }
+        ensures ok { OnOk result (self.new ≡ with_new K.cmp self.old key value) }
+        ensures there { IsSome (lookup (is_at (K.cmp key)) self.old) → IsOk result }
         ensures err { OnErr result (self.new ≡ self.old) }
     {
-        match self.place_of(key) {
-            Ok(place) => Ok(Some(mem::replace(&mut self.values[place], value))),
-            Err(place) => {
-                self.keys.reserve(1)?;
-                self.values.insert(place, value)?;
-                // The keys have room for it.
-                self.keys.insert(place, key).unwrap();
-                Ok(None)
-            }
-        }
+        let Err(place) = self.place_of(key) else {
+            return Ok(false);
+        };
+        self.keys.reserve(1)?;
+        self.values.insert(place, value)?;
+        // The keys have room for it.
+        self.keys.insert(place, key).unwrap();
+        Ok(true)
     }
 
     /// Takes the key's entry out. It takes no memory.
@@ -137,6 +158,7 @@ impl<K: Ord + Copy, V: Drop> Block<K, V> {
     #[tactic(auto, using(crate::proofs::Zipped::as_many))]
     pub(crate) fn place_to_split(&self, key: K) -> Option<usize>
         ensures some { IfSome result (λ place. (0 < place) × (place < length self.now)) }
+        ensures missing { IfSome result (λ place. lookup (is_at (K.cmp key)) self.now ≡ None) }
         ensures none { IfNone result ((length self.now < block_size) ⊎ IsSome (lookup (is_at (K.cmp key)) self.now)) }
     {
         let len = self.keys.len();

@@ -1,31 +1,30 @@
 //! Blocks behind their bounds.
-ghost use Rattle.std.specs.Prelude.{◌≡◌, [], None, Some, IfOk, OnErr, OnOk};
+ghost use Rattle.std.specs.Prelude.{◌≡◌, [], None, Some, IfOk, is_some, IsOk, IsSome, not, OnErr, OnOk};
 ghost use Rattle.std.specs.Borrow.{sem};
 ghost use Rattle.std.specs.Map.{lookup, remove_entry};
-ghost use Rattle.std.specs.BTreeMap.{insert_entry, is_at};
+ghost use Rattle.std.specs.BTreeMap.{is_at};
 ghost use Rattle.std.specs.BTreeMap.Range.{entries_between};
 ghost use Rattle.std.specs.Option.{option_copied, option_copied_mut};
 ghost use Rattle.std.specs.declared.ops.Bound.TheVariants.{Unbounded};
 
 use crate::block::Block;
+use crate::bounded::Bounded;
 use crate::iter::Iter;
 use range_core::Memory;
 use std::alloc::Global;
-use std::collections::BTreeMap;
-use std::collections::btree_map::Range;
 use std::ops::Bound;
 
 /// Entries by rising keys: first those before all bounds, and then those of each block, from its bound on, before the next.
 #[derive(Drop)]
 pub(crate) struct Blocks<K: Ord + Copy, V> {
     first: Block<K, V>,
-    others: BTreeMap<K, Block<K, V>>,
+    others: Bounded<K, V>,
     alloc: Global,
 }
 
 impl<K: Ord + Copy, V: Drop> Blocks<K, V> {
-    ghost use Rattle.block_map.specs.Blocks.{block_for as block_in, bound_for as bound_in, bound_from};
-    ghost use Rattle.block_map.specs.Kept.{AreInOrder, behind_bound, block_at, entries_in, HasPlace, KeepsEntries};
+    ghost use Rattle.block_map.specs.Blocks.{block_for as block_in, bound_for as bound_in, bound_from, with_new};
+    ghost use Rattle.block_map.specs.Kept.{AreInOrder, block_at, entries_in, HasPlace, KeepsEntries};
     ghost use Rattle.block_map.specs.Lending.{LendsBlock, LendsValue};
 
     /// No entry. It takes no memory.
@@ -35,7 +34,7 @@ impl<K: Ord + Copy, V: Drop> Blocks<K, V> {
     {
         Blocks {
             first: Block::new(alloc),
-            others: BTreeMap::new(alloc),
+            others: Bounded::new(alloc),
             alloc,
         }
     }
@@ -46,10 +45,21 @@ impl<K: Ord + Copy, V: Drop> Blocks<K, V> {
         ensures bound { result.0 ≡ bound_in K.cmp key self.now.others.entries }
         ensures block { result.1.now ≡ block_in K.cmp key self.now.first self.now.others.entries }
     {
-        let mut upto = self.others.range((Bound::Unbounded, Bound::Included(key)));
-        match upto.next_back() {
-            Some((bound, block)) => (Some(*bound), block),
+        match self.others.last_upto(key) {
+            Some((bound, place)) => (Some(bound), self.others.at(place).unwrap()),
             None => (None, &self.first),
+        }
+    }
+
+    /// The key's block, which may be changed. One way down leads there.
+    fn block_for_mut(&mut self, key: K) -> Option<&mut Block<K, V>>
+        requires { AreInOrder K.cmp self.old }
+        ensures* lends { sem 𝓛 (LendsBlock K.row V.row K.Ord self.entry (bound_in K.cmp key self.old.others.entries) result) }
+        ensures value { option_copied_mut result ≡ Some (block_in K.cmp key self.old.first self.old.others.entries) }
+    {
+        match self.others.last_upto(key) {
+            Some((_, place)) => self.others.at_mut(place),
+            None => Some(&mut self.first),
         }
     }
 
@@ -67,7 +77,7 @@ impl<K: Ord + Copy, V: Drop> Blocks<K, V> {
     {
         match bound {
             None => Some(&self.first),
-            Some(bound) => self.others.get(&bound),
+            Some(bound) => self.others.get(bound),
         }
     }
 
@@ -78,7 +88,7 @@ impl<K: Ord + Copy, V: Drop> Blocks<K, V> {
     {
         match bound {
             None => Some(&mut self.first),
-            Some(bound) => self.others.get_mut(&bound),
+            Some(bound) => self.others.get_mut(bound),
         }
     }
 
@@ -96,41 +106,38 @@ impl<K: Ord + Copy, V: Drop> Blocks<K, V> {
         ensures* lends { sem 𝓛 (LendsValue K.row V.row K.Ord self.entry key result) }
         ensures value { option_copied_mut result ≡ lookup (is_at (K.cmp key)) (entries_in self.old) }
     {
-        let (bound, block) = self.block_for(key);
-        match block.place_of(key) {
-            Ok(place) => self.block_mut(bound)?.value_at(place),
-            Err(_) => None,
-        }
+        self.block_for_mut(key)?.get_mut(key)
     }
 
-    /// The key has the value. Where it had another, that is the result.
+    /// The key has the value, where it had none: whether that is so. Where it had one, nothing changes.
     ///
-    /// `Memory` leaves the entries as they were.
-    pub(crate) fn insert(&mut self, key: K, value: V) -> Result<Option<V>, Memory>
+    /// `Memory`, which never comes where it had one, leaves the entries as they were.
+    pub(crate) fn insert_new(&mut self, key: K, value: V) -> Result<bool, Memory>
         requires { AreInOrder K.cmp self.old }
-        ensures old { IfOk result (λ old. old ≡ lookup (is_at (K.cmp key)) (entries_in self.old)) }
-        ensures ok { OnOk result (entries_in self.new ≡ insert_entry K.cmp (entries_in self.old) key value) }
+        ensures told { IfOk result (λ is_new. is_new ≡ not (is_some (lookup (is_at (K.cmp key)) (entries_in self.old)))) }
+        ensures ok { OnOk result (entries_in self.new ≡ with_new K.cmp (entries_in self.old) key value) }
+        ensures there { IsSome (lookup (is_at (K.cmp key)) (entries_in self.old)) → IsOk result }
         ensures err { OnErr result (entries_in self.new ≡ entries_in self.old) }
         ensures parted { AreInOrder K.cmp self.new }
     {
-        let bound = self.make_room(key)?;
-        self.block_mut(bound).unwrap().insert(key, value)
+        let block = self.block_for_mut(key).unwrap();
+        let Some(place) = block.place_to_split(key) else {
+            return block.insert_new(key, value);
+        };
+        self.make_room(key, place)?;
+        self.block_for_mut(key).unwrap().insert_new(key, value)
     }
 
-    /// Makes room for the key in its block: where there is none, the block is split. Says its bound then, where it isn't the first.
+    /// The entries of the key's block from this place on go to a block of their own.
     ///
     /// `Memory` leaves the entries as they were.
-    fn make_room(&mut self, key: K) -> Result<Option<K>, Memory>
-        requires { AreInOrder K.cmp self.old }
-        ensures entries { KeepsEntries K.cmp self.old self.new }
-        ensures bound { IfOk result (λ bound. bound ≡ bound_in K.cmp key self.new.others.entries) }
+    fn make_room(&mut self, key: K, place: usize) -> Result<(), Memory>
+        requires parted { AreInOrder K.cmp self.old }
+        requires place { HasPlace (Some (block_in K.cmp key self.old.first self.old.others.entries)) place }
+        ensures { KeepsEntries K.cmp self.old self.new }
     {
-        let (bound, block) = self.block_for(key);
-        let Some(place) = block.place_to_split(key) else {
-            return Ok(bound);
-        };
-        self.split(bound, place)?;
-        Ok(self.bound_for(key))
+        let bound = self.bound_for(key);
+        self.split(bound, place)
     }
 
     /// The entries of a block from this place on go to a block of their own.
@@ -146,11 +153,11 @@ impl<K: Ord + Copy, V: Drop> Blocks<K, V> {
         // From here on, what fails takes the empty block out again.
         match self.block_mut(bound).unwrap().split_off(place) {
             Ok(tail) => {
-                *self.others.get_mut(&behind).unwrap() = tail;
+                *self.others.get_mut(behind).unwrap() = tail;
                 Ok(())
             }
             Err(memory) => {
-                self.others.remove(&behind);
+                self.others.remove(behind);
                 Err(memory)
             }
         }
@@ -163,23 +170,22 @@ impl<K: Ord + Copy, V: Drop> Blocks<K, V> {
         ensures entries { entries_in self.new ≡ remove_entry (is_at (K.cmp key)) (entries_in self.old) }
         ensures parted { AreInOrder K.cmp self.new }
     {
-        let bound = self.bound_for(key);
-        let block = self.block_mut(bound).unwrap();
+        let block = self.block_for_mut(key).unwrap();
         let value = block.remove(key);
         if block.is_empty() {
-            self.drop_empty(bound);
+            self.drop_empty(key);
         }
         value
     }
 
-    /// The block behind the bound, which has no entry, goes; the first stays.
-    fn drop_empty(&mut self, bound: Option<K>)
+    /// The key's block, which has no entry, goes, unless it is the first. It takes no memory.
+    fn drop_empty(&mut self, key: K)
         requires parted { AreInOrder K.cmp self.old }
-        requires empty { block_at K.cmp bound self.old ≡ Some [] }
+        requires empty { block_in K.cmp key self.old.first self.old.others.entries ≡ [] }
         ensures { KeepsEntries K.cmp self.old self.new }
     {
-        if let Some(bound) = bound {
-            self.others.remove(&bound);
+        if let Some(bound) = self.bound_for(key) {
+            self.others.remove(bound);
         }
     }
 
@@ -189,7 +195,7 @@ impl<K: Ord + Copy, V: Drop> Blocks<K, V> {
     {
         Iter {
             left: self.first.entries(),
-            blocks: self.others.range(..),
+            blocks: self.others.behind(None),
         }
     }
 
@@ -201,7 +207,7 @@ impl<K: Ord + Copy, V: Drop> Blocks<K, V> {
         let bound = self.bound_from(from);
         Iter {
             left: self.block(bound).unwrap().entries_from(from),
-            blocks: self.behind(bound),
+            blocks: self.others.behind(bound),
         }
     }
 
@@ -215,16 +221,5 @@ impl<K: Ord + Copy, V: Drop> Blocks<K, V> {
             Bound::Included(key) => self.bound_for(*key),
             Bound::Excluded(key) => self.bound_for(*key),
         }
-    }
-
-    /// The blocks behind that of the bound, or behind the first.
-    fn behind(&self, bound: Option<K>) -> Range<'_, K, Block<K, V>>
-        ensures { result ≡ entries_between K.cmp (behind_bound bound) Unbounded self.now.others.entries }
-    {
-        let from = match bound {
-            None => Bound::Unbounded,
-            Some(bound) => Bound::Excluded(bound),
-        };
-        self.others.range((from, Bound::Unbounded))
     }
 }

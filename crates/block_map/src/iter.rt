@@ -1,7 +1,6 @@
 //! The entries in order.
-use crate::block::Block;
+use crate::bounded::BoundedIter;
 use crate::entries::Entries;
-use std::collections::btree_map::Range;
 use std::marker::Model;
 
 /// Entries by rising keys.
@@ -10,7 +9,7 @@ pub struct Iter<'a, K: Ord + Copy, V> {
     /// What is left of the block that is gone through.
     pub(crate) left: Entries<'a, K, V>,
     /// The blocks behind it.
-    pub(crate) blocks: Range<'a, K, Block<K, V>>,
+    pub(crate) blocks: BoundedIter<'a, K, V>,
 }
 
 impl<'a, K: Ord + Copy, V> Model for Iter<'a, K, V> {
@@ -38,7 +37,7 @@ impl<'a, K: Ord + Copy, V: Drop> Iterator for Iter<'a, K, V> {
             if let Some(entry) = self.left.take_first() {
                 return Some(entry);
             }
-            let (_, block) = self.blocks.next()?;
+            let (_, block) = self.blocks.take_first()?;
             self.left = block.entries();
         }
     }

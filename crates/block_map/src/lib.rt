@@ -3,6 +3,7 @@
 
 mod block;
 mod blocks;
+mod bounded;
 mod entries;
 mod iter;
 mod map;
@@ -12,3 +13,6 @@ pub use map::BlockMap;
 
 /// How many entries a block has at most.
 const BLOCK: usize = 32;
+
+/// How many keys of a block a search steps over at a time.
+const STEP: usize = 8;

@@ -1,5 +1,5 @@
 //! The map.
-ghost use Rattle.std.specs.Prelude.{◌≡◌, ◌+◌, [], true, None, Some, is_some, if◌then◌else◌, IfNone, IfSome, IsSome, ◌↔◌, IfOk, OnErr, OnOk, length, nat_lt};
+ghost use Rattle.std.specs.Prelude.{◌≡◌, ◌+◌, [], true, false, not, None, Some, is_some, if◌then◌else◌, IfNone, IfSome, IsSome, ◌↔◌, IfOk, IsOk, OnErr, OnOk, length, nat_lt};
 ghost use Rattle.std.specs.Borrow.{sem};
 ghost use Rattle.std.specs.List.Sorted.{IsStrictlySortedBy};
 ghost use Rattle.std.specs.Map.{keys_of, lookup, remove_entry};
@@ -13,6 +13,7 @@ use crate::iter::Iter;
 use range_core::Memory;
 use std::alloc::Global;
 use std::marker::Model;
+use std::mem;
 use std::ops::Bound;
 
 /// A map from keys to values, seen as its entries by rising keys.
@@ -93,7 +94,24 @@ impl<K: Ord + Copy, V: Drop> BlockMap<K, V> {
         ensures updates { OnOk result (Updates K.cmp self.old self.new key (Some value)) }
         ensures err { OnErr result (self.new ≡ self.old) }
     {
-        self.blocks.insert(key, value)
+        if let Some(kept) = self.blocks.get_mut(key) {
+            return Ok(Some(mem::replace(kept, value)));
+        }
+        self.blocks.insert_new(key, value)?;
+        Ok(None)
+    }
+
+    /// The key has the value, where it had none: whether that is so. Where it had one, nothing changes.
+    ///
+    /// `Memory`, which never comes where it had one, leaves the entries as they were.
+    pub fn insert_new(&mut self, key: K, value: V) -> Result<bool, Memory>
+        ensures told { IfOk result (λ is_new. is_new ≡ not (is_some (lookup (is_at (K.cmp key)) self.old))) }
+        ensures updates { IfOk result (λ is_new. is_new ≡ true → Updates K.cmp self.old self.new key (Some value)) }
+        ensures same { IfOk result (λ is_new. is_new ≡ false → self.new ≡ self.old) }
+        ensures there { IsSome (lookup (is_at (K.cmp key)) self.old) → IsOk result }
+        ensures err { OnErr result (self.new ≡ self.old) }
+    {
+        self.blocks.insert_new(key, value)
     }
 
     /// Takes the key's entry out. It takes no memory.

@@ -48,6 +48,16 @@ impl Pair {
         Ok(())
     }
 
+    /// Both have the value, where they had none.
+    fn insert_new(&mut self, rt: &impl Abort, key: u64, value: u64) -> Result<(), Fail> {
+        let is_new = !self.other.contains_key(&key);
+        same(rt, self.map.insert_new(key, value)?, is_new);
+        if is_new {
+            self.other.insert(key, value)?;
+        }
+        Ok(())
+    }
+
     /// Neither has the key any more.
     fn remove(&mut self, rt: &impl Abort, key: u64) {
         same(rt, self.map.remove(key), self.other.remove(&key));
@@ -73,9 +83,10 @@ impl Pair {
     /// A change that looks random.
     fn change(&mut self, rt: &impl Abort, draws: &mut Draws, keys: u64) -> Result<(), Fail> {
         let key = draws.below(keys);
-        match draws.below(5) {
+        match draws.below(6) {
             0 => self.remove(rt, key),
             1 => self.raise(rt, key),
+            2 => self.insert_new(rt, key, draws.below(1000))?,
             _ => self.insert(rt, key, draws.below(1000))?,
         }
         Ok(())
@@ -190,11 +201,12 @@ fn rising_keys(rt: HostRuntime) -> Result<(), Fail> {
 fn grow(rt: &impl Abort, map: &mut BlockMap<u64, u64>) -> Result<(), Memory> {
     for key in 0..70u64 {
         let place = key.wrapping_mul(37) % 71;
-        if map.insert(place, key).is_err() {
+        if map.insert_new(place, key).is_err() {
             same(rt, map.get(place), None);
             same(rt, map.has_more_than(key as usize), false);
             map.insert(place, key)?;
         }
+        same(rt, map.insert_new(place, 0)?, false);
         same(rt, map.get(place).copied(), Some(key));
     }
     Ok(())

@@ -1,6 +1,6 @@
 -- What a change of one owner's list, or of one description's place, means to the whole book: for each call that sets, reserves or releases.
 use Rattle.lock_book.proofs.Common.{common_steps, ℕ, ◌≡◌, ◌≢◌, ◌==◌, ◌∙◌, sym, ap, refl, subst, true, false, cond, Bool, arith, ◌≤◌, ◌+◌, Option, Some, None, Result, Ok, Err, inl, inr, List, if◌then◌else◌, is_some, nat_cmp, option_copied, option_copied_mut, get, Bor, cases_Bool, eqb-true, Mode, Span, OwnerRuns, modes_of, is_covered, Modes, IsByteRange, Owner, Book, is_same_owner, list_of, place_of, byte_modes_of, flock_modes_of, modes_in_list, IsIdle, PutsFor, mode_in_place, lookup, set_value}
-use Rattle.std.specs.Prelude.{◌||◌, OnOk, OnErr, OnSome}
+use Rattle.std.specs.Prelude.{◌||◌, ◌↔◌, not, IsTrue, IsFalse, OnOk, OnErr, OnSome}
 use Rattle.std.specs.Borrow.{MutBor}
 use Rattle.range_core.specs.Changes.{SetsMode}
 use Rattle.owner_runs.specs.Lists.{room_of}
@@ -299,3 +299,23 @@ ClearsOwner-nothing old new owner owners flocks none =
       ];
       places = λ description. ap (λ (f : FlockHolders). place_among f.places.entries description) flocks;
     }) none (λ byte. refl) refl
+
+holds_by : (P : Type 0) (test : Bool) → (IsTrue test ↔ P) → IsFalse (not test) ↔ P
+holds_by P true told = (λ empty. told.0 refl, λ holds. refl)
+holds_by P false told = (λ empty. absurd (let h : true ≡ false = empty in cc), λ holds. absurd (let h : false ≡ true = told.1 holds in cc))
+
+-- an owner has had no byte lock just where the list that it had is empty
+pub had_told : (book : Book) (owner : Owner) (list : OwnerRuns) (is_empty : Bool) → list_of book owner ≡ Some list → (IsTrue is_empty ↔ ((byte : ℕ) → modes_of list byte ≡ None))
+    → IsFalse (not is_empty) ↔ ((byte : ℕ) → byte_modes_of book owner byte ≡ None)
+unfolding byte_modes_of
+had_told book owner list is_empty was told =
+    subst (λ (l : Option OwnerRuns). IsFalse (not is_empty) ↔ ((byte : ℕ) → modes_in_list l byte ≡ None)) (sym was) (holds_by ((byte : ℕ) → modes_of list byte ≡ None) is_empty told)
+
+none_by : (list : Option OwnerRuns) → not (is_some list) ≡ true → list ≡ None
+none_by None lacks = refl
+none_by (Some list) lacks = absurd (let h : false ≡ true = lacks in cc)
+
+-- an owner whose list was added had none
+pub none_listed : (book : Book) (owner : Owner) (is_new : Bool) → is_new ≡ not (is_some (lookup (is_same_owner owner) book.owners)) → is_new ≡ true → list_of book owner ≡ None
+unfolding list_of
+none_listed book owner is_new told new = none_by (lookup (is_same_owner owner) book.owners) (sym told ∙ new)

@@ -7,7 +7,9 @@ use Rattle.lock_server.specs.Waiting.{IsReserved, KeepsFlockRoom}
 use Rattle.lock_server.specs.TicketsView.{SameTickets}
 use Rattle.lock_server.specs.WaitersView.{BeginsIf, CrossesIf, HasRoomIf}
 use Rattle.lock_server.specs.States.{IsPending}
-use Rattle.lock_server.proofs.IndexLemmas.{IsIndexed-same, waits_kept}
+use Rattle.lock_server.specs.Calls.{CrossesOwners, SetsUncrossed}
+use Rattle.lock_server.proofs.IndexLemmas.{IsIndexed-same, same_from_eq, waits_kept}
+use Rattle.lock_server.proofs.StateLemmas.{SameFile-itself}
 use Rattle.lock_server.proofs.ListLemmas.{Any-nil}
 use Rattle.lock_server.proofs.TicketMoves.{PutsWaits, IsIdle, has_key, itself, ticket_of, tickets_joined, tickets_left, tickets_noted}
 use Rattle.lock_server.proofs.WaiterMoves.{WaitersKnown}
@@ -32,16 +34,30 @@ releases_nothing files tickets waiters file family owner known none = record {
       (CrossesBy-same (waits_in files) waiters (waiters_known files tickets waiters known) waiters (SameWaiters-itself waiters));
 }
 
+-- who is given a lock, or none, is crossed, and all else stays
+module _ (files : Files) (tickets : Tickets) (was now : Waiters) (owner : ℕ) (mode : Option Mode) (known : IsIndexed files tickets was) (crosses : CrossesIf mode was now owner) where
+  pub crossed_indexed : IsIndexed files tickets now
+  crossed_indexed = indexed files tickets now (tickets_known files tickets was known) (WaitersKnown-given (waits_in files) was now owner mode crosses (waiters_known files tickets was known))
+
+  pub crosses_by : CrossesOwners (state_by files tickets was) (given_by owner mode) (state_by files tickets now)
+  crosses_by = record {
+    files = λ file. SameFile-itself (state_in files file);
+    grants = refl;
+    crossed = (changes_by files files tickets tickets was now 0 (given_by owner mode) (λ other differs. refl) refl (waiters_known files tickets now crossed_indexed)
+        (CrossesBy-given (waits_in files) was (waiters_known files tickets was known) now owner mode crosses)).crossed;
+  }
+
 untouched_unset : (owner : ℕ) (span : Span) → SetsBytes untouched owner span None untouched
 untouched_unset owner span = grind (arith, common_steps, cases_Bool)
 
-pub unlocks_nothing : (files : Files) (tickets : Tickets) (waiters : Waiters) (file owner : ℕ) (span : Span)
-    → IsIndexed files tickets waiters → entry_in files file ≡ None
-    → SetsOn (state_by files tickets waiters) file Bytes owner span None (state_by files tickets waiters)
-unlocks_nothing files tickets waiters file owner span known none = record {
+pub unlocks_nothing : (files : Files) (tickets : Tickets) (waiters : Waiters) (file owner : ℕ) (span : Span) → entry_in files file ≡ None
+    → SetsUncrossed (state_by files tickets waiters) file owner span None (state_by files tickets waiters)
+unlocks_nothing files tickets waiters file owner span none = record {
   sets = subst (λ (F : FileState). SetsBytes F owner span None F) (sym (ap state_at none)) (untouched_unset owner span);
   waits = refl;
-  changes = (releases_nothing files tickets waiters file Bytes owner known none).changes;
+  others = λ other differs. SameFile-itself (state_in files other);
+  grants = refl;
+  crossed = λ other. refl;
 }
 
 module _ (old new : Files) (tickets : Tickets) (was : Waiters) (file : ℕ) (before after : LockFile)
@@ -59,6 +75,17 @@ module _ (old new : Files) (tickets : Tickets) (was : Waiters) (file : ℕ) (bef
       waits = at_entries old new file before after (λ F G. G.waits ≡ F.waits) is puts waits;
       changes = changes_by old new tickets tickets was was file [] puts.others refl (waiters_known new tickets was kept_indexed)
           (CrossesBy-same (waits_in old) was (waiters_known old tickets was known) was (SameWaiters-itself was));
+    }
+
+    -- and is given one of bytes, or none, before it is crossed
+    pub uncrossed_by : (owner : ℕ) (span : Span) (mode : Option Mode) → SetsBytes (file_state before) owner span mode (file_state after)
+        → SetsUncrossed (state_by old tickets was) file owner span mode (state_by new tickets was)
+    uncrossed_by owner span mode sets = record {
+      sets = at_entries old new file before after (λ F G. SetsBytes F owner span mode G) is puts sets;
+      waits = at_entries old new file before after (λ F G. G.waits ≡ F.waits) is puts waits;
+      others = λ other differs. same_from_eq (state_in old other) (state_in new other) (ap state_at (puts.others other differs));
+      grants = refl;
+      crossed = λ other. refl;
     }
 
     module _ (now : Waiters) (owner : ℕ) (mode : Option Mode) (crosses : CrossesIf mode was now owner) where

@@ -42,6 +42,7 @@ pub mod RoomFreeLemmas
 pub mod ReadyLemmas
 pub mod HavingLemmas
 pub mod ForgetLemmas
+pub mod FirstLemmas
 pub mod FlockLemmas
 pub mod FlockOwnerLemmas
 pub mod ListedLemmas

@@ -1,7 +1,7 @@
 -- Pairs of an owner and a file, in order: for the holdings.
 use Rattle.lock_server.proofs.Common.{arith, ℕ, ◌≡◌, ◌≢◌, ◌-◌, ◌^◌, ◌<◌, ◌≤◌, ◌∙◌, inl, inr, sym, ap, refl, subst, true, false, Bool, Option, Some, None, IsTrue, cases_eq, cases_lt, nat_tests, is_at, IsFromStart, nat_cmp, is_within, pair_cmp, number_behind}
 use Rattle.std.proofs.Common.{cond, List}
-use Rattle.std.specs.Prelude.{IfNone, is_some}
+use Rattle.std.specs.Prelude.{IfNone, is_some, not}
 use Rattle.std.specs.Map.{lookup}
 use Rattle.std.specs.BTreeMap.Range.{IsLeBy, IsLtBy}
 use Rattle.std.specs.Ordering.{is_eq, is_gt, ordering_then}
@@ -62,6 +62,21 @@ module _ {X : Type 0} (old new : List ((ℕ × ℕ) × X)) (owner file : ℕ) (v
   pub pair_left : (other any : ℕ) → is_at (pair_cmp (owner, file)) (other, any) ≡ false
       → is_some (lookup (is_at (pair_cmp (other, any))) new) ≡ is_some (lookup (is_at (pair_cmp (other, any))) old)
   pair_left other any apart = ap is_some (updates (other, any) ∙ ap (λ b. cond b value (lookup (is_at (pair_cmp (other, any))) old)) apart)
+
+-- a pair that is put in where it isn't there yet is there then, and each other pair is kept where it was
+pub entered : {X : Type 0} (old new : List ((ℕ × ℕ) × X)) (owner file : ℕ) (value : X) (is_new : Bool) → is_new ≡ not (is_some (lookup (is_at (pair_cmp (owner, file))) old))
+    → (is_new ≡ true → Updates pair_cmp old new (owner, file) (Some value)) → (is_new ≡ false → new ≡ old)
+    → (is_some (lookup (is_at (pair_cmp (owner, file))) new) ≡ true) × ((other any : ℕ) → is_at (pair_cmp (owner, file)) (other, any) ≡ false
+    → is_some (lookup (is_at (pair_cmp (other, any))) new) ≡ is_some (lookup (is_at (pair_cmp (other, any))) old))
+entered old new owner file value true told updates same = let comes = updates refl in (pair_kept old new owner file (Some value) comes, pair_left old new owner file (Some value) comes)
+entered old new owner file value false told updates same = (
+  ap (λ pairs. is_some (lookup (is_at (pair_cmp (owner, file))) pairs)) (same refl) ∙ there (is_some (lookup (is_at (pair_cmp (owner, file))) old)) told,
+  λ other any apart. ap (λ pairs. is_some (lookup (is_at (pair_cmp (other, any))) pairs)) (same refl),
+)
+  where
+    there : (b : Bool) → false ≡ not b → b ≡ true
+    there true is = refl
+    there false is = absurd (let no : false ≡ true = is in cc)
 
 -- of one owner's pairs that of the lesser file comes first
 pub pair_before : (owner file any : ℕ) → file < any → IsLtBy pair_cmp (owner, file) (owner, any)

@@ -1,5 +1,5 @@
 -- What each call comes to: a relation of the state before it, its answer, and the state after it.
-use Rattle.std.specs.Prelude.{◌≡◌, ℕ, ◌<◌, ◌⊎◌, not, Bool, false, IsTrue, IsFalse, All, AllPairs, Option, Some, None, List, [], ◌∷◌, filter, Contains}
+use Rattle.std.specs.Prelude.{◌≡◌, ◌≢◌, ℕ, ◌<◌, ◌⊎◌, not, Bool, false, IsTrue, IsFalse, All, AllPairs, Option, Some, None, List, [], ◌∷◌, filter, Contains}
 use Rattle.range_core.specs.declared.Mode.{Mode}
 use Rattle.range_core.specs.declared.Span.{Span}
 use Rattle.range_core.specs.Facts.{MatchFact}
@@ -16,9 +16,9 @@ use Rattle.lock_server.specs.declared.Answer.TheVariants.{Done, Blocked}
 use Rattle.lock_server.specs.declared.WaitAnswer.{WaitAnswer}
 use Rattle.lock_server.specs.declared.WaitAnswer.TheVariants as told
 use Rattle.lock_server.specs.Pendings.{is_byte_wait}
-use Rattle.lock_server.specs.Files.{FileState, SameFile, SetsLock, Unlocks, Joins, Leaves}
+use Rattle.lock_server.specs.Files.{FileState, SameFile, SetsBytes, SetsLock, Unlocks, Joins, Leaves}
 use Rattle.lock_server.specs.Settling.{HasAlready, IsBlockedUnless, IsHeldBack, IsWaitBlocked}
-use Rattle.lock_server.specs.States.{State, SameState, IsPending, ChangesFile, SettlesFile}
+use Rattle.lock_server.specs.States.{State, SameState, Crosses, IsPending, ChangesFile, SettlesFile}
 use Rattle.lock_server.specs.Deadlock.{ClosesCycle}
 
 -- the ticket of a request that doesn't wait, which is never told (this project's choice)
@@ -46,6 +46,20 @@ pub record SetsOn (S : State) (file : ℕ) (family : Family) (owner : ℕ) (span
   pub sets : SetsLock family (S.files file) owner span mode (T.files file)
   pub waits : (T.files file).waits ≡ (S.files file).waits
   pub changes : ChangesFile S file (given_by owner mode) T
+
+-- the same of bytes, before the owner is crossed (this project's choice)
+pub record SetsUncrossed (S : State) (file : ℕ) (owner : ℕ) (span : Span) (mode : Option Mode) (T : State) : Type 0 where
+  pub sets : SetsBytes (S.files file) owner span mode (T.files file)
+  pub waits : (T.files file).waits ≡ (S.files file).waits
+  pub others : (other : ℕ) → other ≢ file → SameFile (S.files other) (T.files other)
+  pub grants : T.grants ≡ S.grants
+  pub crossed : (owner : ℕ) → T.crossed owner ≡ S.crossed owner
+
+-- these owners were given locks and are crossed, where they have a detected wait, and all else stays (this project's choice)
+pub record CrossesOwners (S : State) (given : List ℕ) (T : State) : Type 0 where
+  pub files : (file : ℕ) → SameFile (S.files file) (T.files file)
+  pub grants : T.grants ≡ S.grants
+  pub crossed : Crosses S given T
 
 -- the same, and then the file is settled (POSIX.1-2017 fcntl, DESCRIPTION, F_SETLK; flock(2))
 pub record Changes (policy : Policy) (S : State) (file : ℕ) (family : Family) (owner : ℕ) (span : Span) (mode : Option Mode) (T : State) : Type 0 where

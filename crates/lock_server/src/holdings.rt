@@ -1,5 +1,5 @@
 //! The files on which each owner has something.
-ghost use Rattle.std.specs.Prelude.{◌≡◌, ◌<◌, ◌≤◌, ℕ, true, false, IfSome, IfNone, IsTrue, IsOk, None, OnOk, OnErr, Option};
+ghost use Rattle.std.specs.Prelude.{◌≡◌, ◌<◌, ◌≤◌, ◌↔◌, ℕ, true, false, IsFalse, IfSome, IfNone, IsTrue, IsOk, None, OnOk, OnErr, Option};
 ghost use Rattle.std.specs.BTreeMap.Range.{IsFromStart, IsLeBy};
 ghost use Rattle.lock_server.specs.HoldingsView.{behind as behind_of};
 
@@ -27,6 +27,7 @@ impl Holdings {
     ghost use Rattle.lock_server.specs.Clients.{ForgetsSeen, is_within};
     ghost use Rattle.lock_server.specs.HoldingsView.{AreKept, keeps, Keeps, keeps_pair, KeepsIf, pair_cmp, SameHoldings, size, Tidies, TidiesIf};
     ghost use Rattle.lock_server.specs.OpeningsView.{IsAbove, through_at};
+    ghost use Rattle.lock_server.specs.States.{State};
     ghost use Rattle.lock_server.specs.TableView.{table_state};
 
     /// No owner. It takes no memory.
@@ -45,26 +46,28 @@ impl Holdings {
         ensures ok { OnOk result (Keeps self.old self.new owner file true) }
         ensures err { OnErr result (SameHoldings self.old self.new) }
     {
-        self.pairs.insert((owner, file), ())?;
+        self.pairs.insert_new((owner, file), ())?;
         Ok(())
     }
 
-    /// The owner is kept with the file, where it is to be given a lock of this mode: who has a byte lock there is kept with it already, and
-    /// an unlock changes nothing.
+    /// The owner is kept with the file, where it was given a lock of this mode: who had a byte lock there before is kept with it already,
+    /// and an unlock changes nothing.
     ///
     /// `Memory` leaves all as it was.
-    pub fn enter_for(
+    fn enter_for(
         &mut self,
-        table: &Table,
         owner: u64,
         file: u64,
         mode: Option<Mode>,
+        had: bool,
     ) -> Result<(), Memory>
-        ensures ok { OnOk result ((through : ℕ → ℕ → Option ℕ) → AreKept self.old (table_state table.now) through → KeepsIf mode self.old self.new owner file) }
+        ensures ok { OnOk result ((S : State) (through : ℕ → ℕ → Option ℕ) → AreKept self.old S through
+            → (IsFalse had ↔ ((byte : ℕ) → (S.files file).bytes owner byte ≡ None)) → KeepsIf mode self.old self.new owner file) }
         ensures unlock { mode ≡ None → IsOk result }
+        ensures there { had ≡ true → IsOk result }
         ensures err { OnErr result (SameHoldings self.old self.new) }
     {
-        if mode.is_none() || table.has_byte_lock(file, owner) {
+        if mode.is_none() || had {
             return Ok(());
         }
         self.enter(owner, file)

@@ -98,8 +98,7 @@ impl LockServer {
         }
         let policy = self.rules.policy;
         let freed = self.table.freed_by_set(policy, file, owner, span, mode);
-        self.holdings
-            .set(&mut self.table, &self.openings, file, owner, span, mode)?;
+        self.holdings.set(&mut self.table, file, owner, span, mode)?;
         self.table.settle_among(policy, file, freed);
         self.table.sweep(file);
         // Behind a lock the owner has something there.
@@ -141,14 +140,8 @@ impl LockServer {
             let freed = self
                 .table
                 .freed_by_set(policy, file, owner, span, Some(mode));
-            self.holdings.set(
-                &mut self.table,
-                &self.openings,
-                file,
-                owner,
-                span,
-                Some(mode),
-            )?;
+            self.holdings
+                .set(&mut self.table, file, owner, span, Some(mode))?;
             self.table.settle_among(policy, file, freed);
             return Ok(WaitAnswer::Done);
         }

@@ -55,6 +55,17 @@ impl LoneRun {
         }
     }
 
+    /// One run, and no room.
+    pub(crate) fn of(span: Span, mode: Mode) -> LoneRun
+        requires { IsByteRange span }
+        ensures items { result.items ≡ (mode, span) ∷ [] }
+        ensures room { result.room ≡ 0 }
+    {
+        LoneRun {
+            place: Place::Run((mode, span)),
+        }
+    }
+
     /// For how many further sets there is room.
     pub(crate) fn room(&self) -> usize
         ensures { result ≡ self.now.room }

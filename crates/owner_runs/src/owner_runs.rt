@@ -59,6 +59,18 @@ impl OwnerRuns {
         }
     }
 
+    /// The mode on just the bytes of the span, and no room. It takes no memory.
+    pub fn of(alloc: Global, span: Span, mode: Mode) -> OwnerRuns
+        requires { IsByteRange span }
+        ensures modes { SetsMode (λ byte. None) (modes_of result) span (Some mode) }
+        ensures room { room_of result ≡ 0 }
+    {
+        OwnerRuns {
+            kept: Kept::Lone(LoneRun::of(span, mode)),
+            alloc,
+        }
+    }
+
     /// Sets the mode on just the bytes of the span, or removes it where `mode` is `None`; the room that is held stays
     /// (POSIX.1-2017 fcntl, `F_SETLK`: the new lock replaces the owner's old ones on these bytes).
     ///

@@ -1,5 +1,5 @@
 //! The lists of the owners of byte locks on one file.
-ghost use Rattle.std.specs.Prelude.{◌≡◌, [], ◌∷◌, None, Some, IfOk, OnOk, OnErr, false, length, nat_lt};
+ghost use Rattle.std.specs.Prelude.{◌≡◌, [], ◌∷◌, None, Some, is_some, IsSome, IfOk, IsOk, OnOk, OnErr, true, false, not, length, nat_lt};
 ghost use Rattle.std.specs.List.{filter};
 ghost use Rattle.std.specs.Map.{lookup};
 ghost use Rattle.std.specs.Option.{option_copied, option_copied_mut};
@@ -108,15 +108,32 @@ impl OwnerLists {
         ensures ok { OnOk result (PutsFor self.old self.new owner (Some list)) }
         ensures err { OnErr result (self.new ≡ self.old) }
     {
+        self.add_new(alloc, owner, list)?;
+        Ok(())
+    }
+
+    /// Adds the list of the owner, where it has none: whether that is so. Where it has one, nothing changes.
+    ///
+    /// `Memory`, which never comes where it has one, leaves the lists as they were.
+    pub fn add_new(&mut self, alloc: Global, owner: Owner, list: OwnerRuns) -> Result<bool, Memory>
+        ensures told { IfOk result (λ is_new. is_new ≡ not (is_some (lookup (is_same_owner owner) self.old))) }
+        ensures ok { IfOk result (λ is_new. is_new ≡ true → PutsFor self.old self.new owner (Some list)) }
+        ensures same { IfOk result (λ is_new. is_new ≡ false → self.new ≡ self.old) }
+        ensures there { IsSome (lookup (is_same_owner owner) self.old) → IsOk result }
+        ensures err { OnErr result (self.new ≡ self.old) }
+    {
         let added = OwnedList { owner, list };
         match &mut self.kept {
             Kept::Nothing => self.kept = Kept::One(added),
-            Kept::One(one) => self.kept = Kept::Many(map_of(alloc, one, added)?),
-            Kept::Many(lists) => {
-                lists.insert(owner, added.list)?;
+            Kept::One(one) => {
+                if one.owner == owner {
+                    return Ok(false);
+                }
+                self.kept = Kept::Many(map_of(alloc, one, added)?);
             }
+            Kept::Many(lists) => return Ok(lists.insert_new(owner, added.list)?),
         }
-        Ok(())
+        Ok(true)
     }
 
     /// Takes the list of the owner out. It takes no memory.

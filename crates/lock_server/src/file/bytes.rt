@@ -1,5 +1,5 @@
 //! The byte locks of one file.
-ghost use Rattle.std.specs.Prelude.{◌≡◌, ◌+◌, ◌<◌, ℕ, None, IfOk, IfSome, IfNone, IsOk, IsTrue, OnOk, OnErr};
+ghost use Rattle.std.specs.Prelude.{◌≡◌, ◌↔◌, ◌+◌, ◌<◌, ℕ, None, IsFalse, IfOk, IfSome, IfNone, IsOk, IsTrue, OnOk, OnErr};
 ghost use Rattle.range_core.specs.Ranges.{IsByteRange, SplitsRun};
 ghost use Rattle.lock_server.specs.Files.{SameFile, SetsBytes, Unlocks};
 ghost use Rattle.lock_server.specs.FileView.{file_state};
@@ -33,18 +33,20 @@ impl LockFile {
         })
     }
 
-    /// Sets the mode on just the bytes of the span, or removes it where there is none. No conflict is looked for, and no wait
-    /// is granted (POSIX.1-2017 fcntl, `F_SETLK`).
+    /// Sets the mode on just the bytes of the span, or removes it where there is none, and tells whether the owner had a byte lock
+    /// before. No conflict is looked for, and no wait is granted (POSIX.1-2017 fcntl, `F_SETLK`).
     ///
     /// `Memory`, which never comes where an unlock splits no run of the owner, leaves the file as it was.
-    pub fn set(&mut self, owner: u64, span: Span, mode: Option<Mode>) -> Result<(), Memory>
+    pub fn set(&mut self, owner: u64, span: Span, mode: Option<Mode>) -> Result<bool, Memory>
         requires { IsByteRange span }
         ensures ok { OnOk result (SetsBytes (file_state self.old) owner span mode (file_state self.new)) }
+        ensures had { IfOk result (λ had. IsFalse had ↔ ((byte : ℕ) → (file_state self.old).bytes owner byte ≡ None)) }
         ensures unlock { mode ≡ None → (¬ SplitsRun ((file_state self.old).bytes owner) span) → IsOk result }
         ensures waits { (file_state self.new).waits ≡ (file_state self.old).waits }
         ensures err { OnErr result (SameFile (file_state self.old) (file_state self.new)) }
     {
-        self.book.set(Owner::Description(owner), span, mode)
+        self.book
+            .set_and_tell(Owner::Description(owner), span, mode)
     }
 
     /// Removes all byte locks of the owner; its waits stay, with their room. It takes no memory (POSIX.1-2017 close).

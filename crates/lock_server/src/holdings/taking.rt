@@ -1,5 +1,5 @@
-//! Locks and waits that owners get on a file: each owner is kept with the file first.
-ghost use Rattle.std.specs.Prelude.{◌≡◌, true, None, IsOk, OnErr, OnOk};
+//! Locks and waits that owners get on a file: each owner is kept with the file from then on.
+ghost use Rattle.std.specs.Prelude.{ℕ, ◌≡◌, true, Option, None, IsOk, OnErr, OnOk};
 ghost use Rattle.range_core.specs.Ranges.{IsByteRange, SplitsRun};
 ghost use Rattle.lock_server.specs.Calls.{SetsOn};
 ghost use Rattle.lock_server.specs.HoldingsView.{AreKept, keeps};
@@ -15,13 +15,13 @@ use crate::{Family, Memory, Mode, Pending, Span};
 
 #[tactic(auto)]
 impl Holdings {
-    /// Sets the mode on just the bytes of the span, or removes it ([`Table::set`]), where the owner is kept with the file.
+    /// Sets the mode on just the bytes of the span, or removes it ([`Table::set`]), and an owner that has got its first byte lock on the
+    /// file is kept with it.
     ///
     /// `Memory`, which never comes where an unlock splits no run of the owner, leaves the table as it was.
     pub fn set(
         &mut self,
         table: &mut Table,
-        openings: &Openings,
         file: u64,
         owner: u64,
         span: Span,
@@ -31,15 +31,20 @@ impl Holdings {
         ensures ok { OnOk result (SetsOn (table_state table.old) file Family.Bytes owner span mode (table_state table.new)) }
         ensures unlock { mode ≡ None → (¬ SplitsRun (((table_state table.old).files file).bytes owner) span) → IsOk result }
         ensures err { OnErr result (SameState (table_state table.old) (table_state table.new)) }
-        ensures kept { AreKept self.old (table_state table.old) (through_at openings.now) → AreKept self.new (table_state table.new) (through_at openings.now) }
+        ensures kept { (through : ℕ → ℕ → Option ℕ) → AreKept self.old (table_state table.old) through → AreKept self.new (table_state table.new) through }
         ensures swept { OnErr result (IsSwept table.old file → IsSwept table.new file) }
         ensures others { KeepsOthers table.old table.new file }
     {
-        self.enter_for(table, owner, file, mode)?;
-        match table.set(file, owner, span, mode) {
-            Ok(()) => Ok(()),
+        let had = table.set_uncrossed(file, owner, span, mode)?;
+        match self.enter_for(owner, file, mode, had) {
+            Ok(()) => {
+                table.cross_by(owner, mode);
+                Ok(())
+            }
             Err(memory) => {
-                self.tidy(table, openings, owner, file);
+                // The owner had no byte lock there, and has none again.
+                table.release(file, owner);
+                table.sweep(file);
                 Err(memory)
             }
         }

@@ -1,13 +1,13 @@
 //! Byte locks that are asked for without waiting.
-ghost use Rattle.std.specs.Prelude.{◌≡◌, ◌↔◌, ◌<◌, ℕ, None, All, IsFalse, IsOk, IsTrue, IfSome, IfNone, OnOk, OnErr, MatchOption};
+ghost use Rattle.std.specs.Prelude.{◌≡◌, ◌↔◌, ◌<◌, ℕ, None, All, IsFalse, IsOk, IsTrue, IfOk, IfSome, IfNone, OnOk, OnErr, MatchOption};
 ghost use Rattle.range_core.specs.Ranges.{IsByteRange, SplitsRun};
-ghost use Rattle.lock_server.specs.Calls.{DismissesOn, ForgetsOn, ReleasesOn, SetsOn};
+ghost use Rattle.lock_server.specs.Calls.{CrossesOwners, DismissesOn, ForgetsOn, given_by, ReleasesOn, SetsOn, SetsUncrossed};
 ghost use Rattle.lock_server.specs.Files.{SameFile, untouched};
 ghost use Rattle.lock_server.specs.Leaving.{is_leaving, is_staying};
 ghost use Rattle.lock_server.specs.Locks.{IsFirstLock, IsInTheWay};
 ghost use Rattle.lock_server.specs.Settling.{IsHeldBack};
 ghost use Rattle.lock_server.specs.States.{SameState};
-ghost use Rattle.lock_server.specs.TableView.{HasEntry, IsSwept, KeepsOthers, table_state};
+ghost use Rattle.lock_server.specs.TableView.{HasEntry, IsSwept, KeepsEntries, KeepsOthers, table_state};
 
 use super::Table;
 use crate::leaving::Leaving;
@@ -42,13 +42,36 @@ impl Table {
         ensures swept { OnErr result (IsSwept self.old file → IsSwept self.new file) }
         ensures others { KeepsOthers self.old self.new file }
     {
+        self.set_uncrossed(file, owner, span, mode)?;
+        self.cross_by(owner, mode);
+        Ok(())
+    }
+
+    /// The same, but that the owner isn't crossed yet ([`Table::cross_by`]); and it tells whether the owner had a byte lock there before.
+    ///
+    /// `Memory`, which never comes where an unlock splits no run of the owner, leaves the table as it was.
+    pub fn set_uncrossed(
+        &mut self,
+        file: u64,
+        owner: u64,
+        span: Span,
+        mode: Option<Mode>,
+    ) -> Result<bool, Memory>
+        requires { IsByteRange span }
+        ensures ok { OnOk result (SetsUncrossed (table_state self.old) file owner span mode (table_state self.new)) }
+        ensures had { IfOk result (λ had. IsFalse had ↔ ((byte : ℕ) → ((table_state self.old).files file).bytes owner byte ≡ None)) }
+        ensures unlock { mode ≡ None → (¬ SplitsRun (((table_state self.old).files file).bytes owner) span) → IsOk result }
+        ensures err { OnErr result (SameState (table_state self.old) (table_state self.new)) }
+        ensures swept { OnErr result (IsSwept self.old file → IsSwept self.new file) }
+        ensures others { KeepsOthers self.old self.new file }
+    {
         // Where nothing is known of the file there is nothing to unlock.
         if mode.is_none() && !self.files.contains_key(&file) {
-            return Ok(());
+            return Ok(false);
         }
         self.open(file)?;
         match self.set_there(file, owner, span, mode) {
-            Ok(()) => Ok(()),
+            Ok(had) => Ok(had),
             Err(memory) => {
                 self.sweep(file);
                 Err(memory)
@@ -63,23 +86,31 @@ impl Table {
         owner: u64,
         span: Span,
         mode: Option<Mode>,
-    ) -> Result<(), Memory>
+    ) -> Result<bool, Memory>
         requires range { IsByteRange span }
         requires entry { HasEntry self.old file }
-        ensures ok { OnOk result (SetsOn (table_state self.old) file Family.Bytes owner span mode (table_state self.new)) }
+        ensures ok { OnOk result (SetsUncrossed (table_state self.old) file owner span mode (table_state self.new)) }
+        ensures had { IfOk result (λ had. IsFalse had ↔ ((byte : ℕ) → ((table_state self.old).files file).bytes owner byte ≡ None)) }
         ensures unlock { mode ≡ None → (¬ SplitsRun (((table_state self.old).files file).bytes owner) span) → IsOk result }
         ensures err { OnErr result (SameState (table_state self.old) (table_state self.new)) }
         ensures others { KeepsOthers self.old self.new file }
     {
         let locks = self.files.get_mut(&file).unwrap();
-        locks.set(owner, span, mode)?;
+        locks.set(owner, span, mode)
+    }
+
+    /// The owner was given a lock of this mode, or none: it is crossed, where it has a detected wait. It takes no memory.
+    pub fn cross_by(&mut self, owner: u64, mode: Option<Mode>)
+        ensures crosses { CrossesOwners (table_state self.old) (given_by owner mode) (table_state self.new) }
+        ensures entries { KeepsEntries self.old self.new }
+    {
         self.waiters.cross_by(owner, mode);
-        Ok(())
     }
 
     /// Removes all byte locks of the owner on the file; its waits stay. No wait is granted. It takes no memory.
     pub fn release(&mut self, file: u64, owner: u64)
         ensures releases { ReleasesOn (table_state self.old) file Family.Bytes owner (table_state self.new) }
+        ensures crossed { (other : ℕ) → (table_state self.new).crossed other ≡ (table_state self.old).crossed other }
         ensures others { KeepsOthers self.old self.new file }
     {
         if let Some(locks) = self.files.get_mut(&file) {

@@ -12,7 +12,7 @@ invariant_of-self c =
     record {
       safe = safe_same _ table new c.in_err-set.ensures.err c.args.self.now.safe;
       swept = all_swept_but table new c.args.file c.set.ensures.others (c.in_err-set.ensures.swept (c.args.self.now.swept c.args.file)) c.args.self.now.swept;
-      kept = c.set.ensures.kept c.args.self.now.kept;
+      kept = c.set.ensures.kept (through_at c.args.self.now.openings) c.args.self.now.kept;
     }
 
 pub invariant_of-self-2 : goal.invariant_of-self-2
@@ -29,7 +29,7 @@ invariant_of-self-2 c =
           c.sweep.ensures.gone c.args.self.now.swept;
       kept = kept_tidied_if c.set.new.self c.tidy_of.new.self (table_state c.sweep.new.self) (through_at c.args.self.now.openings) c.then_some-unlocked.result c.args.file c.tidy_of.ensures
           (kept_rested c.set.new.self (through_at c.args.self.now.openings) _ (table_state c.set.new.table) c.args.file (table_state c.sweep.new.self) rest
-          (c.set.ensures.kept c.args.self.now.kept));
+          (c.set.ensures.kept (through_at c.args.self.now.openings) c.args.self.now.kept));
     }
 
 pub returns-clause-ok : goal.returns-clause-ok

@@ -17,7 +17,7 @@ invariant_of-self c =
     record {
       safe = safe_same _ table new c.in_err-set.ensures.err c.args.self.now.safe;
       swept = all_swept_but table new c.args.file c.set.ensures.others (c.in_err-set.ensures.swept (c.args.self.now.swept c.args.file)) c.args.self.now.swept;
-      kept = c.set.ensures.kept c.args.self.now.kept;
+      kept = c.set.ensures.kept (through_at c.args.self.now.openings) c.args.self.now.kept;
     }
 
 -- nothing blocks the request, and the file came to rest after its set
@@ -48,7 +48,7 @@ invariant_of-self-then-not-blocks c =
           c.settle_among.ensures.settles)
           c.args.self.now.swept;
       kept = kept_rested c.set.new.self (through_at c.args.self.now.openings) _ (table_state c.set.new.table) c.args.file (table_state c.settle_among.new.self)
-          (rest at.After-settle_among) (c.set.ensures.kept c.args.self.now.kept);
+          (rest at.After-settle_among) (c.set.ensures.kept (through_at c.args.self.now.openings) c.args.self.now.kept);
     }
 
 pub returns-then-not-blocks-clause-ok : goal.returns-then-not-blocks-clause-ok
