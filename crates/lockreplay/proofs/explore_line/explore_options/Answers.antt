@@ -4,43 +4,21 @@ use Rattle.lockreplay.specs.ExploreLine.{explore_line}
 use Rattle.lockreplay.proofs.CommandLineLemmas.{value_found, fails_as_stated}
 use Rattle.lockreplay.proofs.explore_line.explore_options.Goals as goal
 
-pub returns-clause-file : goal.returns-clause-file
-returns-clause-file c =
+pub returns : goal.returns
+returns c =
+    let words = map string_bytes c.args.words.now in
+    let found = c.in_ok-matches.matches in
+    let matches = c.in_ok-matches.ensures.matches in
     let app = app_of c.in_ok-command.field-0 in
     let is : app ≡ explore_line = search rules in
-    c.get_str-4.ensures
-    ∙ value_found explore_line refl (codes "file") app (map string_bytes c.args.words.now) c.in_ok-matches.matches is
-    c.in_ok-matches.ensures.matches
-
-pub returns-clause-limit : goal.returns-clause-limit
-returns-clause-limit c =
-    let app = app_of c.in_ok-command.field-0 in
-    let is : app ≡ explore_line = search rules in
-    c.get_str.ensures
-    ∙ value_found explore_line refl (codes "limit") app (map string_bytes c.args.words.now) c.in_ok-matches.matches is
-    c.in_ok-matches.ensures.matches
-
-pub returns-clause-fail_on : goal.returns-clause-fail_on
-returns-clause-fail_on c =
-    let app = app_of c.in_ok-command.field-0 in
-    let is : app ≡ explore_line = search rules in
-    c.get_str-2.ensures
-    ∙ value_found explore_line refl (codes "fail-on") app (map string_bytes c.args.words.now) c.in_ok-matches.matches is
-    c.in_ok-matches.ensures.matches
-
-pub returns-clause-run : goal.returns-clause-run
-returns-clause-run c =
-    let app = app_of c.in_ok-command.field-0 in
-    let is : app ≡ explore_line = search rules in
-    c.get_str-3.ensures
-    ∙ value_found explore_line refl (codes "run") app (map string_bytes c.args.words.now) c.in_ok-matches.matches is
-    c.in_ok-matches.ensures.matches
-
-pub returns-clause-kind : goal.returns-clause-kind
-returns-clause-kind c =
-    let app = app_of c.in_ok-command.field-0 in
-    let is : app ≡ explore_line = search rules in
-    fails_as_stated explore_line refl app (map string_bytes c.args.words.now) (Ok c.in_ok-matches.matches) is c.in_ok-matches.ensures.kinds
+    record {
+      file = c.get_str-4.ensures ∙ value_found explore_line refl (codes "file") app words found is matches;
+      limit = c.get_str.ensures ∙ value_found explore_line refl (codes "limit") app words found is matches;
+      fail_on = c.get_str-2.ensures ∙ value_found explore_line refl (codes "fail-on") app words found is matches;
+      run = c.get_str-3.ensures ∙ value_found explore_line refl (codes "run") app words found is matches;
+      kind = fails_as_stated explore_line refl app words (Ok found) is c.in_ok-matches.ensures.kinds;
+      taken = tt;
+    }
 
 pub returns-in_err-matches-clause-kind : goal.returns-in_err-matches-clause-kind
 returns-in_err-matches-clause-kind c =

@@ -3,55 +3,18 @@ use Rattle.block_map.specs.Kept.{HasPlace}
 use Rattle.block_map.proofs.Kept.{insert_keyed, inserted_then, kept_keyed, lent_is, looked_there, on_any_err, same_entries, same_keyed, same_order, told}
 use Rattle.block_map.proofs.blocks.Blocks.insert_new.Goals as goal
 
-pub returns-in_default-clause-told : goal.returns-in_default-clause-told
-returns-in_default-clause-told g c =
+pub returns-in_default : goal.returns-in_default
+returns-in_default g c =
     let o = g.met.K.Ord.total in
     let old = c.args.self.now in
     let lent = c.unwrap-block.result in
     let its = lent_is c.block_for_mut.result lent _ c.block_for_mut.ensures.value c.unwrap-block.ensures in
     let sets = told c.block_for_mut.result lent c.unwrap-block.ensures (c.block_for_mut.follows.holds c.insert_new.new.self) in
-    (insert_keyed o c.args.key c.args.value old (c.block_for_mut.follows.lender c.insert_new.new.self) lent.now c.insert_new.new.self c.insert_new.result c.requires its sets
-    c.insert_new.ensures.told c.insert_new.ensures.ok c.insert_new.ensures.there c.insert_new.ensures.err).told
-
-pub returns-in_default-clause-ok : goal.returns-in_default-clause-ok
-returns-in_default-clause-ok g c =
-    let o = g.met.K.Ord.total in
-    let old = c.args.self.now in
-    let lent = c.unwrap-block.result in
-    let its = lent_is c.block_for_mut.result lent _ c.block_for_mut.ensures.value c.unwrap-block.ensures in
-    let sets = told c.block_for_mut.result lent c.unwrap-block.ensures (c.block_for_mut.follows.holds c.insert_new.new.self) in
-    (insert_keyed o c.args.key c.args.value old (c.block_for_mut.follows.lender c.insert_new.new.self) lent.now c.insert_new.new.self c.insert_new.result c.requires its sets
-    c.insert_new.ensures.told c.insert_new.ensures.ok c.insert_new.ensures.there c.insert_new.ensures.err).ok
-
-pub returns-in_default-clause-there : goal.returns-in_default-clause-there
-returns-in_default-clause-there g c =
-    let o = g.met.K.Ord.total in
-    let old = c.args.self.now in
-    let lent = c.unwrap-block.result in
-    let its = lent_is c.block_for_mut.result lent _ c.block_for_mut.ensures.value c.unwrap-block.ensures in
-    let sets = told c.block_for_mut.result lent c.unwrap-block.ensures (c.block_for_mut.follows.holds c.insert_new.new.self) in
-    (insert_keyed o c.args.key c.args.value old (c.block_for_mut.follows.lender c.insert_new.new.self) lent.now c.insert_new.new.self c.insert_new.result c.requires its sets
-    c.insert_new.ensures.told c.insert_new.ensures.ok c.insert_new.ensures.there c.insert_new.ensures.err).there
-
-pub returns-in_default-clause-err : goal.returns-in_default-clause-err
-returns-in_default-clause-err g c =
-    let o = g.met.K.Ord.total in
-    let old = c.args.self.now in
-    let lent = c.unwrap-block.result in
-    let its = lent_is c.block_for_mut.result lent _ c.block_for_mut.ensures.value c.unwrap-block.ensures in
-    let sets = told c.block_for_mut.result lent c.unwrap-block.ensures (c.block_for_mut.follows.holds c.insert_new.new.self) in
-    (insert_keyed o c.args.key c.args.value old (c.block_for_mut.follows.lender c.insert_new.new.self) lent.now c.insert_new.new.self c.insert_new.result c.requires its sets
-    c.insert_new.ensures.told c.insert_new.ensures.ok c.insert_new.ensures.there c.insert_new.ensures.err).err
-
-pub returns-in_default-clause-parted : goal.returns-in_default-clause-parted
-returns-in_default-clause-parted g c =
-    let o = g.met.K.Ord.total in
-    let old = c.args.self.now in
-    let lent = c.unwrap-block.result in
-    let its = lent_is c.block_for_mut.result lent _ c.block_for_mut.ensures.value c.unwrap-block.ensures in
-    let sets = told c.block_for_mut.result lent c.unwrap-block.ensures (c.block_for_mut.follows.holds c.insert_new.new.self) in
-    (insert_keyed o c.args.key c.args.value old (c.block_for_mut.follows.lender c.insert_new.new.self) lent.now c.insert_new.new.self c.insert_new.result c.requires its sets
-    c.insert_new.ensures.told c.insert_new.ensures.ok c.insert_new.ensures.there c.insert_new.ensures.err).parted
+    let done =
+    insert_keyed o c.args.key c.args.value old (c.block_for_mut.follows.lender c.insert_new.new.self) lent.now c.insert_new.new.self c.insert_new.result c.requires its sets
+    c.insert_new.ensures.told c.insert_new.ensures.ok c.insert_new.ensures.there c.insert_new.ensures.err
+    in
+    record { told = done.told; ok = done.ok; there = done.there; err = done.err; parted = done.parted }
 
 pub make_room-requires-clause-parted : goal.make_room-requires-clause-parted
 make_room-requires-clause-parted g c =
@@ -89,8 +52,8 @@ returns-in_err-make_room-clause-err g c =
     let same = same_keyed o c.args.key old mid lent.now lent.now c.requires its (told c.block_for_mut.result lent c.unwrap-block.ensures (c.block_for_mut.follows.holds lent.now)) refl in
     on_any_err c.from_residual.result (c.make_room.ensures.0 ∙ same_entries o old mid same)
 
-pub returns-clause-told : goal.returns-clause-told
-returns-clause-told g c =
+pub returns : goal.returns
+returns g c =
     let o = g.met.K.Ord.total in
     let old = c.args.self.now in
     let lent = c.unwrap-block.result in
@@ -100,71 +63,10 @@ returns-clause-told g c =
     let room = c.make_room.new.self in
     let again = c.unwrap.result in
     let end = c.block_for_mut-2.follows.lender c.insert_new-2.new.self in
-    (inserted_then o c.args.key c.args.value old room end c.insert_new-2.result (c.make_room.ensures.0 ∙ same_entries o old mid same)
+    let done =
+    inserted_then o c.args.key c.args.value old room end c.insert_new-2.result (c.make_room.ensures.0 ∙ same_entries o old mid same)
     (insert_keyed o c.args.key c.args.value room end again.now c.insert_new-2.new.self c.insert_new-2.result c.make_room.ensures.1
     (lent_is c.block_for_mut-2.result again _ c.block_for_mut-2.ensures.value c.unwrap.ensures)
-    (told c.block_for_mut-2.result again c.unwrap.ensures (c.block_for_mut-2.follows.holds c.insert_new-2.new.self)) c.insert_new-2.ensures.told c.insert_new-2.ensures.ok c.insert_new-2.ensures.there c.insert_new-2.ensures.err)).told
-
-pub returns-clause-ok : goal.returns-clause-ok
-returns-clause-ok g c =
-    let o = g.met.K.Ord.total in
-    let old = c.args.self.now in
-    let lent = c.unwrap-block.result in
-    let its = lent_is c.block_for_mut.result lent _ c.block_for_mut.ensures.value c.unwrap-block.ensures in
-    let mid = c.block_for_mut.follows.lender lent.now in
-    let same = same_keyed o c.args.key old mid lent.now lent.now c.requires its (told c.block_for_mut.result lent c.unwrap-block.ensures (c.block_for_mut.follows.holds lent.now)) refl in
-    let room = c.make_room.new.self in
-    let again = c.unwrap.result in
-    let end = c.block_for_mut-2.follows.lender c.insert_new-2.new.self in
-    (inserted_then o c.args.key c.args.value old room end c.insert_new-2.result (c.make_room.ensures.0 ∙ same_entries o old mid same)
-    (insert_keyed o c.args.key c.args.value room end again.now c.insert_new-2.new.self c.insert_new-2.result c.make_room.ensures.1
-    (lent_is c.block_for_mut-2.result again _ c.block_for_mut-2.ensures.value c.unwrap.ensures)
-    (told c.block_for_mut-2.result again c.unwrap.ensures (c.block_for_mut-2.follows.holds c.insert_new-2.new.self)) c.insert_new-2.ensures.told c.insert_new-2.ensures.ok c.insert_new-2.ensures.there c.insert_new-2.ensures.err)).ok
-
-pub returns-clause-there : goal.returns-clause-there
-returns-clause-there g c =
-    let o = g.met.K.Ord.total in
-    let old = c.args.self.now in
-    let lent = c.unwrap-block.result in
-    let its = lent_is c.block_for_mut.result lent _ c.block_for_mut.ensures.value c.unwrap-block.ensures in
-    let mid = c.block_for_mut.follows.lender lent.now in
-    let same = same_keyed o c.args.key old mid lent.now lent.now c.requires its (told c.block_for_mut.result lent c.unwrap-block.ensures (c.block_for_mut.follows.holds lent.now)) refl in
-    let room = c.make_room.new.self in
-    let again = c.unwrap.result in
-    let end = c.block_for_mut-2.follows.lender c.insert_new-2.new.self in
-    (inserted_then o c.args.key c.args.value old room end c.insert_new-2.result (c.make_room.ensures.0 ∙ same_entries o old mid same)
-    (insert_keyed o c.args.key c.args.value room end again.now c.insert_new-2.new.self c.insert_new-2.result c.make_room.ensures.1
-    (lent_is c.block_for_mut-2.result again _ c.block_for_mut-2.ensures.value c.unwrap.ensures)
-    (told c.block_for_mut-2.result again c.unwrap.ensures (c.block_for_mut-2.follows.holds c.insert_new-2.new.self)) c.insert_new-2.ensures.told c.insert_new-2.ensures.ok c.insert_new-2.ensures.there c.insert_new-2.ensures.err)).there
-
-pub returns-clause-err : goal.returns-clause-err
-returns-clause-err g c =
-    let o = g.met.K.Ord.total in
-    let old = c.args.self.now in
-    let lent = c.unwrap-block.result in
-    let its = lent_is c.block_for_mut.result lent _ c.block_for_mut.ensures.value c.unwrap-block.ensures in
-    let mid = c.block_for_mut.follows.lender lent.now in
-    let same = same_keyed o c.args.key old mid lent.now lent.now c.requires its (told c.block_for_mut.result lent c.unwrap-block.ensures (c.block_for_mut.follows.holds lent.now)) refl in
-    let room = c.make_room.new.self in
-    let again = c.unwrap.result in
-    let end = c.block_for_mut-2.follows.lender c.insert_new-2.new.self in
-    (inserted_then o c.args.key c.args.value old room end c.insert_new-2.result (c.make_room.ensures.0 ∙ same_entries o old mid same)
-    (insert_keyed o c.args.key c.args.value room end again.now c.insert_new-2.new.self c.insert_new-2.result c.make_room.ensures.1
-    (lent_is c.block_for_mut-2.result again _ c.block_for_mut-2.ensures.value c.unwrap.ensures)
-    (told c.block_for_mut-2.result again c.unwrap.ensures (c.block_for_mut-2.follows.holds c.insert_new-2.new.self)) c.insert_new-2.ensures.told c.insert_new-2.ensures.ok c.insert_new-2.ensures.there c.insert_new-2.ensures.err)).err
-
-pub returns-clause-parted : goal.returns-clause-parted
-returns-clause-parted g c =
-    let o = g.met.K.Ord.total in
-    let old = c.args.self.now in
-    let lent = c.unwrap-block.result in
-    let its = lent_is c.block_for_mut.result lent _ c.block_for_mut.ensures.value c.unwrap-block.ensures in
-    let mid = c.block_for_mut.follows.lender lent.now in
-    let same = same_keyed o c.args.key old mid lent.now lent.now c.requires its (told c.block_for_mut.result lent c.unwrap-block.ensures (c.block_for_mut.follows.holds lent.now)) refl in
-    let room = c.make_room.new.self in
-    let again = c.unwrap.result in
-    let end = c.block_for_mut-2.follows.lender c.insert_new-2.new.self in
-    (inserted_then o c.args.key c.args.value old room end c.insert_new-2.result (c.make_room.ensures.0 ∙ same_entries o old mid same)
-    (insert_keyed o c.args.key c.args.value room end again.now c.insert_new-2.new.self c.insert_new-2.result c.make_room.ensures.1
-    (lent_is c.block_for_mut-2.result again _ c.block_for_mut-2.ensures.value c.unwrap.ensures)
-    (told c.block_for_mut-2.result again c.unwrap.ensures (c.block_for_mut-2.follows.holds c.insert_new-2.new.self)) c.insert_new-2.ensures.told c.insert_new-2.ensures.ok c.insert_new-2.ensures.there c.insert_new-2.ensures.err)).parted
+    (told c.block_for_mut-2.result again c.unwrap.ensures (c.block_for_mut-2.follows.holds c.insert_new-2.new.self)) c.insert_new-2.ensures.told c.insert_new-2.ensures.ok c.insert_new-2.ensures.there c.insert_new-2.ensures.err)
+    in
+    record { told = done.told; ok = done.ok; there = done.there; err = done.err; parted = done.parted }

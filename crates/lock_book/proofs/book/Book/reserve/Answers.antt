@@ -10,51 +10,20 @@ returns-in_err-reserve-in-None-clause-there c there = grind (arith, common_steps
 pub returns-in_err-add-in-None-clause-there : goal.returns-in_err-add-in-None-clause-there
 returns-in_err-add-in-None-clause-there c there = grind (arith, common_steps, list_of-not_lent, room_in-list)
 
-pub returns-in-Some-clause-ok : goal.returns-in-Some-clause-ok
-returns-in-Some-clause-ok c =
+pub returns-in-Some : goal.returns-in-Some
+returns-in-Some c =
     let book = c.args.self.now in
     let list = c.reserve.new.self in
     let owners = c.get_mut.follows.lender list in
     let written = list_written book owners c.args.owner _ _ list c.get_mut.ensures.value c.in-Some.is (c.get_mut.follows.holds list) in
-    on_ok_weaker c.reserve.result
-    (λ room. SameButRoom-puts book _ c.args.owner _ list (PutsList-puts book _ _ _ refl written.1) written.0 c.reserve.ensures.modes)
-    c.reserve.ensures.ok
-
-pub returns-in-Some-clause-there : goal.returns-in-Some-clause-there
-returns-in-Some-clause-there c there =
-    let was : list_of c.args.self.now c.args.owner ≡ Some c.in-Some.list.now =
-    list_of-lent _ _ _ _ c.get_mut.ensures.value c.in-Some.is in
-    let room = room_in-list _ _ _ was in c.reserve.ensures.there (omega arith)
-
-pub returns-in-Some-clause-kept : goal.returns-in-Some-clause-kept
-returns-in-Some-clause-kept c =
-    let book = c.args.self.now in
-    let list = c.reserve.new.self in
-    let owners = c.get_mut.follows.lender list in
-    let written = list_written book owners c.args.owner _ _ list c.get_mut.ensures.value c.in-Some.is (c.get_mut.follows.holds list) in
-    on_ok_weaker c.reserve.result
-    (λ room. room_kept book _ c.args.owner c.in-Some.list.now list (PutsList-puts book _ _ _ refl written.1) written.0 c.reserve.ensures.kept)
-    c.reserve.ensures.ok
-
-pub returns-in-Some-clause-room : goal.returns-in-Some-clause-room
-returns-in-Some-clause-room c =
-    let book = c.args.self.now in
-    let list = c.reserve.new.self in
-    let owners = c.get_mut.follows.lender list in
-    let written = list_written book owners c.args.owner _ _ list c.get_mut.ensures.value c.in-Some.is (c.get_mut.follows.holds list) in
-    on_ok_weaker c.reserve.result
-    (λ room. room_held book _ c.args.owner list c.args.sets (PutsList-puts book _ _ _ refl written.1) room)
-    c.reserve.ensures.ok
-
-pub returns-in-Some-clause-err : goal.returns-in-Some-clause-err
-returns-in-Some-clause-err c =
-    let book = c.args.self.now in
-    let list = c.reserve.new.self in
-    let owners = c.get_mut.follows.lender list in
-    let written = list_written book owners c.args.owner _ _ list c.get_mut.ensures.value c.in-Some.is (c.get_mut.follows.holds list) in
-    on_err_weaker c.reserve.result
-    (λ same. SameBook-puts book _ c.args.owner _ list (PutsList-puts book _ _ _ refl written.1) written.0 same.modes same.room)
-    c.reserve.ensures.err
+    let puts = PutsList-puts book _ _ _ refl written.1 in
+    record {
+      ok = on_ok_weaker c.reserve.result (λ room. SameButRoom-puts book _ c.args.owner _ list puts written.0 c.reserve.ensures.modes) c.reserve.ensures.ok;
+      kept = on_ok_weaker c.reserve.result (λ room. room_kept book _ c.args.owner c.in-Some.list.now list puts written.0 c.reserve.ensures.kept) c.reserve.ensures.ok;
+      room = on_ok_weaker c.reserve.result (λ room. room_held book _ c.args.owner list c.args.sets puts room) c.reserve.ensures.ok;
+      there = λ there. let room = room_in-list _ _ _ written.0 in c.reserve.ensures.there (omega arith);
+      err = on_err_weaker c.reserve.result (λ same. SameBook-puts book _ c.args.owner _ list puts written.0 same.modes same.room) c.reserve.ensures.err;
+    }
 
 pub returns-in_ok-add-in-None-clause-ok : goal.returns-in_ok-add-in-None-clause-ok
 returns-in_ok-add-in-None-clause-ok c =

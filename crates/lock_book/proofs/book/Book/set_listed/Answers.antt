@@ -28,14 +28,22 @@ invariant_of-self-in-Err c =
     written.0 (λ byte. refl) same.modes c.take_out-left.ensures.kept c.put_in.ensures) in
     record { in_use = kept.in_use; indexed = kept.indexed }
 
-pub returns-in-Err-clause-err : goal.returns-in-Err-clause-err
-returns-in-Err-clause-err c =
+pub returns-in-Err : goal.returns-in-Err
+unfolding byte_modes_of
+returns-in-Err c =
     let book = c.args.self.now in
     let list = c.set.new.self in
     let owners = c.get_mut.follows.lender list in
     let written = list_written book owners c.args.owner _ _ list c.get_mut.ensures.value c.in-Some.is (c.get_mut.follows.holds list) in
     let same = c.in-Err.ensures.err in
-    SameBook-puts book _ c.args.owner _ list (PutsList-puts book _ _ _ refl written.1) written.0 same.modes same.room
+    record {
+      ok = tt;
+      room = tt;
+      had = tt;
+      unlock = λ unlock whole. absurd (false≢true (c.in-Err.ensures.unlock unlock (λ splits. whole (subst (λ (l : Option OwnerRuns). SplitsRun (modes_in_list l) c.args.span) (sym written.0) splits))));
+      again = λ wanted is constant. c.in-Err.ensures.again wanted is (subst (λ (l : Option OwnerRuns). IsConstant (modes_in_list l) c.args.span wanted) written.0 constant);
+      err = SameBook-puts book _ c.args.owner _ list (PutsList-puts book _ _ _ refl written.1) written.0 same.modes same.room;
+    }
 
 pub invariant_of-self-then-is_idle : goal.invariant_of-self-then-is_idle
 invariant_of-self-then-is_idle c =
@@ -73,40 +81,21 @@ returns-then-is_idle-clause-ok c =
     (PutsList-puts book _ _ _ refl (PutsAt-removes book owners c.remove.new.self c.args.owner (Some list) written.1 c.remove.ensures.puts)) written.0
     (λ byte. sym (idle.free byte) ∙ c.in_default-set.ensures.ok byte)
 
-pub returns-else-is_idle-clause-ok : goal.returns-else-is_idle-clause-ok
-returns-else-is_idle-clause-ok c =
+pub returns-else-is_idle : goal.returns-else-is_idle
+returns-else-is_idle c =
     let book = c.args.self.now in
     let list = c.set.new.self in
     let owners = c.get_mut.follows.lender list in
     let written = list_written book owners c.args.owner _ _ list c.get_mut.ensures.value c.in-Some.is (c.get_mut.follows.holds list) in
-    SetsOwnerMode-puts book _ c.args.owner (Some c.in-Some.list.now) (Some list) _ _ (PutsList-puts book _ _ _ refl written.1) written.0
-    c.in_default-set.ensures.ok
-
-pub returns-in-Err-clause-unlock : goal.returns-in-Err-clause-unlock
-unfolding byte_modes_of
-returns-in-Err-clause-unlock c unlock whole =
-    let book = c.args.self.now in
-    let list = c.set.new.self in
-    let owners = c.get_mut.follows.lender list in
-    let written = list_written book owners c.args.owner _ _ list c.get_mut.ensures.value c.in-Some.is (c.get_mut.follows.holds list) in
-    absurd (false≢true (c.in-Err.ensures.unlock unlock (λ splits. whole (subst (λ (l : Option OwnerRuns). SplitsRun (modes_in_list l) c.args.span) (sym written.0) splits))))
-
-pub returns-in-Err-clause-again : goal.returns-in-Err-clause-again
-unfolding byte_modes_of
-returns-in-Err-clause-again c wanted is constant =
-    let book = c.args.self.now in
-    let list = c.set.new.self in
-    let owners = c.get_mut.follows.lender list in
-    let written = list_written book owners c.args.owner _ _ list c.get_mut.ensures.value c.in-Some.is (c.get_mut.follows.holds list) in
-    c.in-Err.ensures.again wanted is (subst (λ (l : Option OwnerRuns). IsConstant (modes_in_list l) c.args.span wanted) written.0 constant)
-
-pub returns-else-is_idle-clause-room : goal.returns-else-is_idle-clause-room
-returns-else-is_idle-clause-room c =
-    let book = c.args.self.now in
-    let list = c.set.new.self in
-    let owners = c.get_mut.follows.lender list in
-    let written = list_written book owners c.args.owner _ _ list c.get_mut.ensures.value c.in-Some.is (c.get_mut.follows.holds list) in
-    room_kept book _ c.args.owner c.in-Some.list.now list (PutsList-puts book _ _ _ refl written.1) written.0 c.in_default-set.ensures.room
+    let puts = PutsList-puts book _ _ _ refl written.1 in
+    record {
+      ok = SetsOwnerMode-puts book _ c.args.owner (Some c.in-Some.list.now) (Some list) _ _ puts written.0 c.in_default-set.ensures.ok;
+      room = room_kept book _ c.args.owner c.in-Some.list.now list puts written.0 c.in_default-set.ensures.room;
+      had = had_told book c.args.owner c.in-Some.list.now c.is_empty-had.result written.0 c.is_empty-had.ensures.free;
+      unlock = λ unlock whole. refl;
+      again = λ wanted is constant. refl;
+      err = tt;
+    }
 
 pub invariant_of-self-then-stays : goal.invariant_of-self-then-stays
 invariant_of-self-then-stays c =
@@ -119,28 +108,21 @@ invariant_of-self-then-stays c =
     (kept_same book owners c.args.owner (Some list) written.1 c.args.self.now.index (Some list) written.0 (λ byte. refl) c.args.self.now.indexed) in
     record { in_use = kept.in_use; indexed = kept.indexed }
 
-pub returns-then-stays-clause-ok : goal.returns-then-stays-clause-ok
-returns-then-stays-clause-ok c =
+pub returns-then-stays : goal.returns-then-stays
+returns-then-stays c =
     let book = c.args.self.now in
     let list = c.in-Some.list.now in
     let owners = c.get_mut.follows.lender list in
     let written = list_written book owners c.args.owner _ _ list c.get_mut.ensures.value c.in-Some.is (c.get_mut.follows.holds list) in
-    SetsOwnerMode-puts book _ c.args.owner (Some list) (Some list) _ _ (PutsList-puts book _ _ _ refl written.1) written.0
-    (already_set (modes_of list) c.args.span c.args.mode (c.stays.ensures.same c.if-stays.true))
-
-pub returns-then-stays-clause-room : goal.returns-then-stays-clause-room
-returns-then-stays-clause-room c =
-    let book = c.args.self.now in
-    let list = c.in-Some.list.now in
-    let owners = c.get_mut.follows.lender list in
-    let written = list_written book owners c.args.owner _ _ list c.get_mut.ensures.value c.in-Some.is (c.get_mut.follows.holds list) in
-    room_kept book _ c.args.owner list list (PutsList-puts book _ _ _ refl written.1) written.0 (omega arith)
-
-pub returns-then-stays-clause-had : goal.returns-then-stays-clause-had
-returns-then-stays-clause-had c = had_told c.args.self.now c.args.owner c.in-Some.list.now c.is_empty-had.result (list_of-lent _ _ _ _ c.get_mut.ensures.value c.in-Some.is) c.is_empty-had.ensures.free
+    let puts = PutsList-puts book _ _ _ refl written.1 in
+    record {
+      ok = SetsOwnerMode-puts book _ c.args.owner (Some list) (Some list) _ _ puts written.0 (already_set (modes_of list) c.args.span c.args.mode (c.stays.ensures.same c.if-stays.true));
+      room = room_kept book _ c.args.owner list list puts written.0 (omega arith);
+      had = had_told book c.args.owner list c.is_empty-had.result written.0 c.is_empty-had.ensures.free;
+      unlock = λ unlock whole. refl;
+      again = λ wanted is constant. refl;
+      err = tt;
+    }
 
 pub returns-then-is_idle-clause-had : goal.returns-then-is_idle-clause-had
 returns-then-is_idle-clause-had c = had_told c.args.self.now c.args.owner c.in-Some.list.now c.is_empty-had.result (list_of-lent _ _ _ _ c.get_mut.ensures.value c.in-Some.is) c.is_empty-had.ensures.free
-
-pub returns-else-is_idle-clause-had : goal.returns-else-is_idle-clause-had
-returns-else-is_idle-clause-had c = had_told c.args.self.now c.args.owner c.in-Some.list.now c.is_empty-had.result (list_of-lent _ _ _ _ c.get_mut.ensures.value c.in-Some.is) c.is_empty-had.ensures.free
