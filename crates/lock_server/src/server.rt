@@ -25,6 +25,9 @@ use std::alloc::Global;
 
 /// The advisory locks of a file server: on files that are numbered by 64 bits (inodes), of owners that are (FUSE's `lock_owner`),
 /// with waits that are named by tickets. Files and owners come and go by need; a file without a lock and a wait takes no memory.
+///
+/// A call that takes no memory may grant waits for bytes: on a file with many owners such a grant asks for room in the index of their
+/// locks, and does without where that is refused.
 #[derive(Drop)]
 pub struct LockServer {
     table: Table,
