@@ -33,15 +33,6 @@ begins_behind bars line end place after within no_space spaces ends = record {
   behind_a_space = λ positive unless. front_of bars line end place (eq-or-lt_of_le after) no_space spaces (ends (omega arith)) unless;
 }
 
--- and where the first spaces end
-pub begins_first : (bars : Bool) (line : List ℕ) (place : ℕ) → place < length line
-    → get_or line place 0 ≢ 32 → (0 < place → get_or line (place - 1) 0 ≡ 32) → BeginsWord bars line place
-begins_first bars line place within no_space spaces = record {
-  within = within;
-  is_no_space = no_space;
-  behind_a_space = λ positive unless. spaces positive;
-}
-
 -- what holds of one value holds of each of a list of it
 All-one : {X : Type 0} (P : X → Type 0) (value : X) → P value → All P (value ∷ [])
 All-one P value of = grind (arith, common_steps)

@@ -109,10 +109,6 @@ pub line_found : (bytes first behind line : List ℕ) → IsFirstLine bytes firs
 line_found bytes first behind line is same =
     ap (list_any (λ one. bytes_eq one line)) (piece_of bytes first behind is).all ∙ ap (λ (b : Bool). b || has_line behind line) same
 
--- no bytes have no line
-pub no_line : (bytes line : List ℕ) → bytes ≡ [] → has_line bytes line ≡ false
-no_line bytes line none = ap (λ (l : List ℕ). has_line l line) none
-
 -- a list without elements is empty
 pub empty_list : (bytes : List ℕ) → length bytes ≡ 0 → bytes ≡ []
 empty_list [] none = refl

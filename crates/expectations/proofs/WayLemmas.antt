@@ -1,7 +1,7 @@
 -- The lines of a script, of which the first were judged: for `told_text`.
 use Rattle.std.proofs.Common.{◌≡◌, ◌∙◌, ℕ, ◌+◌, ◌-◌, ◌<◌, ◌≤◌, ◌⊎◌, List, [], ◌∷◌, ◌++◌, length, take, Bool, true, false, MatchBool, MatchResult, Result, Ok, Err, inl, inr, refl, sym, ap, ap₂, subst, arith, append_assoc, append-nil, length-append}
 use Rattle.std.specs.Prelude.{nat_lt}
-use Rattle.std.proofs.lemmas.Bool.{cases_Bool, cases_lt, le-ltb, lt-ltb, ltb-false}
+use Rattle.std.proofs.lemmas.Bool.{cases_Bool, cases_lt, le-ltb, ltb-false}
 use Rattle.std.proofs.Math.Seq.{take-append_seam}
 use Rattle.script_core.specs.declared.line.Line.{Line}
 use Rattle.script_core.specs.declared.script.Cause.{Cause}
@@ -13,7 +13,6 @@ use Rattle.script_core.specs.Reading.{LinesGive, Reading, Reads, reading_after, 
 use Rattle.script_core.proofs.ReadingLemmas.{one_reading}
 use Rattle.replay_core.specs.declared.replays.RunFault.{RunFault}
 use Rattle.replay_core.specs.declared.replays.RunFault.TheVariants as faults
-use Rattle.replay_core.specs.Faults.{IsOutputFault}
 use Rattle.expectations.specs.FirstLines.{IsFirstLine}
 use Rattle.expectations.specs.Expectations.{Says, words_behind}
 use Rattle.expectations.specs.Judging.{AreScript, TellsExpectation, TellsLine, TellsLines, IsFaulty, NoneFaultyBefore, IsFirstFault, IsFaultAt, IsToldFault}
@@ -194,16 +193,6 @@ way_next bytes rest told number line behind own new way first tells is_new =
 pub way_tells : (bytes told : List ℕ) (number : ℕ) → Way bytes [] told number → TellsLines [] (lines_of bytes) told
 way_tells bytes told number way = subst (TellsLines [] (lines_of bytes)) (append-nil told) (way.goes_on [] refl)
 
--- a fault of the whole script is the first then
-pub way_reads : (bytes told : List ℕ) (number : ℕ) (fault : ScriptFault) → Way bytes [] told number → Reads bytes (Err fault) → IsFirstFault bytes fault
-way_reads bytes told number fault way reads = record {
-  is_fault = inl reads;
-  first = λ before line behind lines less.
-      let all = ap length (sym lines ∙ way.lines ∙ append-nil way.done) in
-      let long = length-append before (line ∷ behind) in
-      way.none before line behind lines (omega (arith, all, long, way.number_is));
-}
-
 -- where a script that ends at a line has a fault, no line before or behind it is faulty
 behind_none : (bytes rest told : List ℕ) (number : ℕ) (line behind : List ℕ) (fault : ScriptFault) (way : Way bytes rest told number)
     → lines_of bytes ≡ (way.done ++ line ∷ []) ++ lines_of behind → LinesGive 1 start (way.done ++ line ∷ []) (Err fault) → NoneFaultyBefore bytes fault.line
@@ -259,13 +248,6 @@ way_form bytes rest told number line behind fault way first fits faulty is =
       first = subst (NoneFaultyBefore bytes) (sym (ap (λ (f : ScriptFault). f.line) is)) way.none;
     }
 
--- a script that is too long has no earlier fault
-pub too_long : (bytes : List ℕ) → script_limit < length bytes → IsFirstFault bytes (record { line = 0; cause = TooLong })
-too_long bytes long = record {
-  is_fault = inl (subst (GivesBy bytes (Err length_fault)) (sym (lt-ltb script_limit (length bytes) long)) refl);
-  first = λ before line behind lines less. absurd (omega (arith, less));
-}
-
 -- ---- the faults of `told_text`
 
 -- of a line that was looked at
@@ -280,11 +262,3 @@ line_fault bytes rest told number line behind script (faults.Memory memory) way 
 line_fault bytes rest told number line behind script faults.Read way first fits short are at = at
 line_fault bytes rest told number line behind script faults.Write way first fits short are at = at
 line_fault bytes rest told number line behind script faults.Thread way first fits short are at = at
-
--- of the whole script, where all lines were judged
-pub end_fault : (bytes told : List ℕ) (number : ℕ) (fault : RunFault) → Way bytes [] told number → IsOutputFault bytes fault → IsToldFault bytes fault
-end_fault bytes told number (faults.Script fault) way reads = way_reads bytes told number fault way reads
-end_fault bytes told number (faults.Memory memory) way at = tt
-end_fault bytes told number faults.Read way at = at
-end_fault bytes told number faults.Write way at = at
-end_fault bytes told number faults.Thread way at = at

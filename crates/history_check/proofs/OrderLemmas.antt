@@ -30,9 +30,6 @@ pub record TellsFiles (locks : ℕ → FileLocks) (files : List ℕ) (text : Lis
   pub by_file : map (λ one. one.file) told ≡ files
   pub is : text ≡ flat_map (λ one. one.text) told
 
-pub no_files : (locks : ℕ → FileLocks) → TellsFiles locks [] []
-no_files locks = record { told = []; are = λ k d below. absurd (omega (arith, below)); by_file = refl; is = refl }
-
 -- one more file
 pub file_more : (locks : ℕ → FileLocks) (files : List ℕ) (text : List ℕ) (file : ℕ) (more : List ℕ) → TellsFiles locks files text
     → IsFileText file (locks file) more → TellsFiles locks (files ++ file ∷ []) (text ++ more)

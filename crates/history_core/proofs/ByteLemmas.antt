@@ -1,6 +1,6 @@
 -- Lists of byte locks, and the modes that they give.
 use Rattle.history_core.proofs.Common.{inl, inr, ℕ, ◌≡◌, ◌≢◌, ◌+◌, ◌^◌, ◌<◌, ◌≤◌, ◌∙◌, ◌==◌, ◌↔◌, sym, ap, refl, subst, arith, true, false, Bool, Option, Some, None, List, [], ◌∷◌, ◌++◌, length, take, drop, zero, suc, get_or, common_steps, cases_Bool, eqb-true, ltb-true, ltb-false, ◌⊎◌, All, Any, filter, not, nat_lt, All-push, take_more, take_all, Mode, ByteLock, bytes_in, Gives, HasByte, AreRanges, AreTrue}
-use Rattle.std.proofs.Common.{◌-◌, ◌&&◌, min, max}
+use Rattle.std.proofs.Common.{◌-◌, ◌&&◌, max}
 use Rattle.std.proofs.lemmas.Bool.{eqb-false}
 use Rattle.std.specs.Prelude.{nat_le, insert}
 use Rattle.std.proofs.lemmas.List.Elements.{All-append, All-take, All-drop, All-filter}
@@ -8,7 +8,7 @@ use Rattle.std.proofs.lemmas.List.{take-append-drop}
 use Rattle.range_core.specs.declared.Span.{Span}
 use Rattle.range_core.specs.Ranges.{Conflict, Covers, HeldConflicts, IsConstant, Modes}
 use Rattle.history_core.specs.Locks.{BlocksBytes, IsHeld, covers, bytes_with, bytes_without}
-use Rattle.history_core.specs.ByteLists.{IsRange, HasBytes, Meets, GivesSome, IsTrueOf, Touches, IsAskedFor, IsBounded}
+use Rattle.history_core.specs.ByteLists.{IsRange, HasBytes, Meets, GivesSome, IsTrueOf, IsAskedFor, IsBounded}
 
 -- a byte is covered just where the test says so
 pub covers-true : (span : Span) (byte : ℕ) → covers span byte ≡ true → Covers span byte
@@ -273,43 +273,6 @@ with_gives locks rest runs owner span new are outside inside other byte mode =
       λ e. within.1 (elim (some.0 e) [ inl old ↦ inl (out.1 (all.1 old.0, old.1)) | inr now ↦ inr now ]),
     )
 
--- a lock grown by one beside it
-pub grown_gives : (lock one : ByteLock) (span : Span) (owner byte : ℕ) (mode : Mode) → Touches one lock → IsRange one.span
-    → span.first ≤ lock.span.first → lock.span.last ≤ span.last → IsRange lock.span
-    → Gives (record lock { span = record { first = min span.first one.span.first; last = max span.last one.span.last } }) owner byte mode
-    ↔ (Gives (record lock { span = span }) owner byte mode ⊎ Gives one owner byte mode)
-grown_gives lock one span owner byte mode touches range begins ends has = (
-  (λ h. elim (cases_Bool (nat_lt byte span.first)) [
-    | inl early ↦ inr (record {
-      is_owner = touches.one_owner ∙ h.is_owner;
-      is_mode = touches.one_mode ∙ h.is_mode;
-      on = elim touches.beside [
-        | inl before ↦ (omega (arith, h.on.0, ltb-true _ _ early), omega (arith, ltb-true _ _ early, before, begins))
-        | inr behind ↦ absurd (omega (arith, h.on.0, ltb-true _ _ early, behind, begins, ends, has))
-      ];
-    })
-    | inr not_early ↦ elim (cases_Bool (nat_lt span.last byte)) [
-      | inl late ↦ inr (record {
-        is_owner = touches.one_owner ∙ h.is_owner;
-        is_mode = touches.one_mode ∙ h.is_mode;
-        on = elim touches.beside [
-          | inl before ↦ absurd (omega (arith, h.on.1, ltb-true _ _ late, before, begins, ends, has))
-          | inr behind ↦ (omega (arith, ltb-true _ _ late, behind, ends), omega (arith, h.on.1, ltb-true _ _ late))
-        ];
-      })
-      | inr not_late ↦ inl (record { is_owner = h.is_owner; is_mode = h.is_mode; on = (ltb-false _ _ not_early, ltb-false _ _ not_late) })
-    ]
-  ]),
-  (λ h. elim h [
-    | inl old ↦ record { is_owner = old.is_owner; is_mode = old.is_mode; on = (omega (arith, old.on.0), omega (arith, old.on.1)) }
-    | inr new ↦ record {
-      is_owner = sym touches.one_owner ∙ new.is_owner;
-      is_mode = sym touches.one_mode ∙ new.is_mode;
-      on = (omega (arith, new.on.0), omega (arith, new.on.1));
-    }
-  ]),
-)
-
 -- what a list gives behind a push
 pub pushed : (old new : List ByteLock) (lock : ByteLock) (some : Option ByteLock) → new ≡ old ++ lock ∷ [] → some ≡ Some lock → (owner byte : ℕ) (mode : Mode)
     → HasByte new owner byte mode ↔ (HasByte old owner byte mode ⊎ GivesSome some owner byte mode)
@@ -317,23 +280,6 @@ pushed old new lock some items is owner byte mode =
     subst (λ xs. HasByte xs owner byte mode ↔ (HasByte old owner byte mode ⊎ GivesSome some owner byte mode)) (sym items)
     (subst (λ l. HasByte (old ++ lock ∷ []) owner byte mode ↔ (HasByte old owner byte mode ⊎ GivesSome l owner byte mode)) (sym is)
     (HasByte-push old lock owner byte mode))
-
--- one lock more is in the one that grows, or behind the others
-pub absorbed : (old : List ByteLock) (lock one : ByteLock) (span : Span) → Touches one lock → IsRange one.span
-    → span.first ≤ lock.span.first → lock.span.last ≤ span.last → IsRange lock.span → (owner byte : ℕ) (mode : Mode)
-    → (HasByte old owner byte mode ⊎ Gives (record lock { span = record { first = min span.first one.span.first; last = max span.last one.span.last } }) owner byte mode)
-    ↔ ((HasByte old owner byte mode ⊎ Gives (record lock { span = span }) owner byte mode) ⊎ Gives one owner byte mode)
-absorbed old lock one span touches range begins ends has owner byte mode =
-    let grown = grown_gives lock one span owner byte mode touches range begins ends has in (
-      λ h. elim h [
-        | inl there ↦ inl (inl there)
-        | inr here ↦ elim (grown.0 here) [ inl run ↦ inl (inr run) | inr new ↦ inr new ]
-      ],
-      λ h. elim h [
-        | inl rest ↦ elim rest [ inl there ↦ inl there | inr run ↦ inr (grown.1 (inl run)) ]
-        | inr new ↦ inr (grown.1 (inr new))
-      ],
-    )
 
 pub set_aside : (old new : List ByteLock) (lock one : ByteLock) (span : Span) → new ≡ old ++ one ∷ [] → (owner byte : ℕ) (mode : Mode)
     → (HasByte new owner byte mode ⊎ Gives (record lock { span = span }) owner byte mode)

@@ -336,15 +336,6 @@ pub entry_in_loop : (files : Files) (xs : List (Bor ℕ × Bor FileHistory)) (s 
     → IsOrdered nat_cmp files.files → file_in files x.0.now ≡ Some x.1.now
 entry_in_loop files xs s t u r x start y is step ordered = (btree_map_turn deref_pair xs s t u r x y is step nat_cmp_total files.files start ordered).1
 
--- none was
-pub puts_none : (old : BTreeMap ℕ FileOrder) (file : ℕ) (history : FileHistory) → keeps_order history ≡ false → PutsOrder old old file history
-puts_none old file history kept = record {
-  puts = λ keeps none. absurd (false≢true (sym kept ∙ keeps));
-  stays = λ was. was;
-  only = λ other here. inl here;
-  others = λ other differs. refl;
-}
-
 -- each is the order of a file, with one more
 pub are_more : (files : BTreeMap ℕ FileHistory) (old new : BTreeMap ℕ FileOrder) (file : ℕ) (history : FileHistory) → get nat_cmp files file ≡ Some history
     → PutsOrder old new file history → AreOf files old → AreOf files new

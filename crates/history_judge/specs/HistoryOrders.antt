@@ -38,10 +38,6 @@ pub record OrderTo (runs : Bool) (lines : List HistoryLine) (told : List FileHap
   pub in_order : lines_among moments ≡ lines
   pub tells : Tells runs beginnings 0 moments told last
 
--- there was an order of all effects, and this is one: put between these lines, each behind as many as it says, they are moments that lead through them
-abbrev pub IsOrder : Bool → List HistoryLine → List FileHappening → Type 0
-IsOrder runs lines told = (last : ℕ → World) × OrderTo runs lines told last
-
 -- at first nobody has a lock on any file
 abbrev pub no_locks : ℕ → FileLocks
 no_locks file = one_file_locks.no_locks

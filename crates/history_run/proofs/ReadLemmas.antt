@@ -107,12 +107,6 @@ limit_read judging old mid new check left more so_far consumed limit = record {
 
 -- ---- faults
 
--- why a search ended that judged bytes to their end
-pub end_fault : (judging : Judging) (bytes : List ℕ) (search : SearchFault) → (search ≡ searches.Limit → IsLimited judging bytes)
-    → IsEndFault judging bytes (fault_of search)
-end_fault judging bytes searches.Limit limit = limit refl
-end_fault judging bytes (searches.Memory memory) limit = tt
-
 -- why what was read can't be judged to its end
 pub end_fault_read : (judging : Judging) (old mid new : Option (List ℕ)) (check : HistoryCheck) (left : ℕ) (failed : Bool) (fault : HistoryFault)
     → IsReadTo judging old mid check left → Consumes mid new []

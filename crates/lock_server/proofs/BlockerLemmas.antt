@@ -1,6 +1,6 @@
 -- The owners for which a wait on a file waits: for `add_steps`, `add_blockers`, `add_holders` and what that calls, `add_conflicting`.
 use Rattle.lock_server.proofs.Common.{ℕ, ◌≡◌, ◌≢◌, ◌+◌, ◌<◌, ◌≤◌, ◌∙◌, ◌⊎◌, inl, inr, sym, ap, refl, subst, arith, suc, true, false, Option, Some, None, List, [], ◌∷◌, ◌++◌, Any, Contains, length, take, drop, map, ◌↔◌, IfNone, IfSome, IsTrue, is_some, slice_get, Bor, keys_of, deref_pair, cases_eq, cases_lt, take_at, length-append, map-append, Contains-append_left, Contains-push, Contains-push_cases, slice_get-get_or, slice_get_within, get_or_from_slice_get}
-use Rattle.lock_server.proofs.Common.{Mode, Span, OwnerRuns, Conflict, Covers, HeldConflicts, IsByteRange, Modes, Owner, Description, WaitsConflict, Family, Bytes, Whole, Policy, FlockLock, Lock, Pending, LockFile, AddsOwners, BlocksBefore, BlocksOn, IsFlockHolder, BlocksIn, IsBlockedByOwner, WaitsForOn, FileState, file_state, EndsBefore, IsFirstFrom, IsFlockLock, flock_place, as_wait}
+use Rattle.lock_server.proofs.Common.{Mode, Span, OwnerRuns, Conflict, Covers, HeldConflicts, Modes, Owner, Description, WaitsConflict, Family, Bytes, Whole, Policy, FlockLock, Lock, Pending, LockFile, AddsOwners, BlocksBefore, BlocksOn, IsFlockHolder, BlocksIn, IsBlockedByOwner, WaitsForOn, FileState, file_state, EndsBefore, IsFirstFrom, IsFlockLock, flock_place, as_wait}
 use Rattle.std.proofs.Common.{min, max}
 use Rattle.std.proofs.lemmas.List.{get_or_at}
 use Rattle.range_core.specs.Ranges.{IsFirstHit}
@@ -92,9 +92,6 @@ module _ (F : FileState) (owner : ℕ) (wanted : Mode) where
         let inside = found.first.covered in
         let held : Covers lock.span found.byte = found.run.covered in
         (omega (arith, inside.0, held.0), omega (arith, inside.1, held.1))
-
-    pub run_in_range : IsByteRange span → IsByteRange run
-    run_in_range range = (let has = has_first in omega (arith, has.0, has.1), (let end = range.1 in omega (arith, end)))
 
     module _ (alone : ¬ IsInTheWay F lock.owner run wanted) (end : ℕ) (behind : end ≡ run.last + 1) where
       -- before its end only its owner blocks

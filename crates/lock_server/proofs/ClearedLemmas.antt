@@ -1,6 +1,6 @@
 -- What owners from a first number to a last one have goes, owner by owner: for `LockFile::strip_bytes` and `LockFile::strip_flocks`.
 use Rattle.lock_server.proofs.Common.{ℕ, ◌≡◌, ◌≢◌, ◌+◌, ◌<◌, ◌≤◌, ◌∙◌, inl, inr, sym, ap, refl, arith, true, false, Bool, Option, None, common_steps, ◌&&◌, if◌then◌else◌, cases_Bool, cases_eq, cases_lt, eq-eqb, ne_eqb, nat_tests, is_within}
-use Rattle.std.specs.Prelude.{◌==◌, nat_le, nat_lt}
+use Rattle.std.specs.Prelude.{◌==◌, nat_lt}
 
 -- whether the owner is one from first to last, and below this number
 abbrev pub is_passed : ℕ → ℕ → ℕ → ℕ → Bool
@@ -16,15 +16,8 @@ below owner next less = grind (arith, nat_tests)
 beyond : (owner next : ℕ) → next ≤ owner → nat_lt owner next ≡ false
 beyond owner next from = grind (arith, nat_tests)
 
-above : (first owner : ℕ) → owner < first → nat_le first owner ≡ false
-above first owner before = grind (arith, nat_tests)
-
 passes : (first last next owner : ℕ) → first ≤ owner → owner ≤ last → owner < next → is_passed first last next owner ≡ true
 passes first last next owner from within before = grind (arith, common_steps, nat_tests)
-
-and_false : (a : Bool) → (a && false) ≡ false
-and_false true = refl
-and_false false = refl
 
 both_below : (first last next more owner : ℕ) → owner < next → owner < more → is_passed first last next owner ≡ is_passed first last (more + 1) owner
 both_below first last next more owner one other =

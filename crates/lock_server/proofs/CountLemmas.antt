@@ -38,9 +38,6 @@ sum_to from to count further none =
 pub sum_none : (to : ℕ) (count : ℕ → ℕ) → ((number : ℕ) → count number ≡ 0) → sum_below to count ≡ 0
 sum_none to count none = sum_to 0 to count (omega arith) (λ number from before. none number) ∙ sum_zero count
 
-pub sum_same : (to : ℕ) (one other : ℕ → ℕ) → ((number : ℕ) → other number ≡ one number) → sum_below to other ≡ sum_below to one
-sum_same to one other same = ap (λ (count : ℕ → ℕ). sum_below to count) (λ i number. same number i)
-
 -- a sum over all numbers is one
 pub sum_one : (count : ℕ → ℕ) (total other : ℕ) → IsSum count total → IsSum count other → other ≡ total
 sum_one count total other sum sum' = elim (cases_lt sum.bound sum'.bound) [

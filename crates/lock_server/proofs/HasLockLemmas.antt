@@ -1,6 +1,5 @@
 -- Whether owners from a first number to a last one have a lock: for the calls named `has_locks` of `LockFile` and `LockServer`.
 use Rattle.lock_server.proofs.Common.{ℕ, ◌≡◌, ◌+◌, ◌<◌, ◌≤◌, ◌∙◌, inl, inr, sym, subst, refl, arith, true, false, not, Bool, Option, Some, None, ◌↔◌, IsTrue, is_some, common_steps, cases_eq, cases_lt, nat_tests, Mode, Modes, HasByteLock, HasFlockLock, HaveLocksOn, is_within, FileState, SameFile, untouched}
-use Rattle.std.specs.Prelude.{◌⊎◌}
 use Rattle.lock_server.proofs.ClearedLemmas.{within_ends}
 
 -- an owner among these of whom this holds
@@ -63,21 +62,6 @@ list_told F owner modes same true free held = (
   λ has. absurd (no_byte_lock F owner (λ byte. sym (same byte) ∙ free.0 refl byte) has),
 )
 list_told F owner modes same false free held = (λ some. let h = held refl in record { byte = h.0; mode = h.1; is = sym (same h.0) ∙ h.2 }, λ has. refl)
-
--- on one file and on all
-pub on_file : (F : FileState) (first last : ℕ) (bytes flocks result : Bool) → IsTrue bytes ↔ OneWithin first last (HasByteLock F)
-    → IsTrue flocks ↔ OneWithin first last (HasFlockLock F) → (IsTrue result ↔ (IsTrue bytes ⊎ IsTrue flocks))
-    → IsTrue result ↔ HaveLocksOn F first last
-on_file F first last bytes flocks result by_bytes by_flocks either = (
-  λ yes_it. elim (either.0 yes_it) [
-    | inl h ↦ (let one = by_bytes.0 h in record { owner = one.0; within = one.1; has = inl one.2 })
-    | inr h ↦ (let one = by_flocks.0 h in record { owner = one.0; within = one.1; has = inr one.2 })
-  ],
-  λ have. either.1 (elim have.has [
-    | inl has ↦ inl (by_bytes.1 (have.owner, have.within, has))
-    | inr has ↦ inr (by_flocks.1 (have.owner, have.within, has))
-  ]),
-)
 
 pub none_untouched : (F : FileState) (first last : ℕ) → SameFile untouched F → ¬ HaveLocksOn F first last
 none_untouched F first last same have = elim have.has [

@@ -216,12 +216,6 @@ module _ (old new : Holdings) (S : State) (through : ℕ → ℕ → Option ℕ)
   kept_tidied_if None file same kept = kept_held same kept
   kept_tidied_if (Some owner) file tidies kept = kept_tidied owner file tidies kept
 
--- an owner that is to be given a lock is kept first
-pub kept_entered_if : (old new : Holdings) (S : State) (through : ℕ → ℕ → Option ℕ) (owner file : ℕ) (mode : Option Mode) → KeepsIf mode old new owner file
-    → AreKept old S through → AreKept new S through
-kept_entered_if old new S through owner file None same kept = kept_held old new S through same kept
-kept_entered_if old new S through owner file (Some mode) keeps_it kept = kept_entered old new S through owner file keeps_it kept
-
 pub kept_set_if : (old new : Holdings) (through : ℕ → ℕ → Option ℕ) (S : State) (file owner : ℕ) (span : Span) (mode : Option Mode) (T : State)
     → KeepsIf mode old new owner file → SetsOn S file Bytes owner span mode T → AreKept old S through → AreKept new T through
 kept_set_if old new through S file owner span None T same sets kept =

@@ -1,10 +1,7 @@
 -- On which bytes a search looked: for `LookedAt`.
-use Rattle.lock_server.proofs.Common.{ℕ, ◌≡◌, ◌-◌, ◌<◌, ◌∙◌, inl, inr, sym, ap, subst, arith, Option, Some, None, ◌↔◌, UpdatesBy, get, Bor, option_copied, nat_cmp, cases_eq, Mode, Span, OwnerRuns, modes_of, Covers, HeldConflicts, IsByteRange, Modes, modes_in_list, LookedAt, IsFirstPartLacking, looked_modes, IsAtLeast}
-use Rattle.range_core.specs.Changes.{SetsMode, modes_with}
+use Rattle.lock_server.proofs.Common.{ℕ, ◌≡◌, ◌-◌, ◌<◌, ◌∙◌, inl, inr, sym, ap, subst, arith, Option, Some, None, ◌↔◌, get, Bor, option_copied, nat_cmp, cases_eq, Mode, Span, OwnerRuns, modes_of, Covers, HeldConflicts, IsByteRange, Modes, modes_in_list, LookedAt, IsFirstPartLacking, looked_modes, IsAtLeast}
 use Rattle.range_core.specs.Ranges.{IsFirstHit}
 use Rattle.lock_server.specs.Lacking.{IsFirstLacking}
-use Rattle.lock_server.specs.LookedAt.{NotesLook}
-use Rattle.lock_server.proofs.TicketLemmas.{is_at-other}
 
 pub found_looked : (looked : LookedAt) (file : ℕ) (found : Option (Bor OwnerRuns)) (list : Bor OwnerRuns)
     → option_copied found ≡ get nat_cmp looked.files file → found ≡ Some list → modes_of list.now ≡ looked_modes looked file
@@ -64,15 +61,4 @@ module _ (modes : Modes) (span : Span) (wanted against : Mode) (same : (held : O
     to = omega arith;
     lacks = λ at covered least. none at covered ((same (modes at)).1 least);
     before = lacking.before;
-  }
-
--- what is noted of a file
-module _ (old new : LookedAt) (file : ℕ) (span : Span) (mode : Mode) where
-  pub noted_by : (before : Modes) (after : OwnerRuns) → ((byte : ℕ) → looked_modes old file byte ≡ before byte)
-      → UpdatesBy nat_cmp (nat_cmp file) old.files new.files (Some after) → SetsMode before (modes_of after) span (Some mode) → NotesLook old new file span mode
-  noted_by before after was updates sets = record {
-    there = λ byte.
-        ap (λ (l : Option OwnerRuns). modes_in_list l byte) updates.1 ∙ sets byte
-        ∙ ap (λ (held : Option Mode). modes_with (λ b. held) span (Some mode) byte) (sym (was byte));
-    elsewhere = λ other byte differs. ap (λ (l : Option OwnerRuns). modes_in_list l byte) (updates.2 other (is_at-other file other differs));
   }

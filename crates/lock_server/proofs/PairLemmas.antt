@@ -1,5 +1,5 @@
 -- Pairs of an owner and a file, in order: for the holdings.
-use Rattle.lock_server.proofs.Common.{arith, ℕ, ◌≡◌, ◌≢◌, ◌-◌, ◌^◌, ◌<◌, ◌≤◌, ◌∙◌, inl, inr, sym, ap, refl, subst, true, false, Bool, Option, Some, None, IsTrue, cases_eq, cases_lt, nat_tests, is_at, IsFromStart, nat_cmp, is_within, pair_cmp, number_behind}
+use Rattle.lock_server.proofs.Common.{arith, ℕ, ◌≡◌, ◌≢◌, ◌-◌, ◌^◌, ◌<◌, ◌≤◌, ◌∙◌, inl, inr, sym, ap, refl, true, false, Bool, Option, Some, None, IsTrue, cases_eq, cases_lt, nat_tests, is_at, IsFromStart, nat_cmp, is_within, pair_cmp, number_behind}
 use Rattle.std.proofs.Common.{cond, List}
 use Rattle.std.specs.Prelude.{IfNone, is_some, not}
 use Rattle.std.specs.Map.{lookup}
@@ -27,9 +27,6 @@ differs x y apart = elim (cases_lt x y) [
 ]
 
 module _ (owner file other any : ℕ) where
-  compared : Ordering → Ordering
-  compared first = ordering_then first (nat_cmp file any)
-
   -- a pair is at itself
   pub pair_at : other ≡ owner → any ≡ file → is_at (pair_cmp (owner, file)) (other, any) ≡ true
   pair_at same_owner same_file =
@@ -96,12 +93,6 @@ owner_upto owner file other any upto = elim (cases_lt other owner) [
   | inr from ↦ from
 ]
 
-pub file_upto : (owner file any : ℕ) → IsLeBy pair_cmp (owner, file) (owner, any) → file ≤ any
-file_upto owner file any upto = elim (cases_lt any file) [
-  | inl behind ↦ absurd (let no : true ≡ false = sym (ap (λ (o : Ordering). is_gt (ordering_then o (nat_cmp file any))) (same owner owner refl) ∙ ap is_gt (more file any behind)) ∙ upto in cc)
-  | inr from ↦ from
-]
-
 -- a pair of the owner whose file is above comes behind
 pub pair_behind : (owner : ℕ) (above : Option ℕ) (file : ℕ) → IsAbove above file → IsFromStart pair_cmp (behind owner above) (owner, file)
 pair_behind owner None file from = pair_from_first owner file
@@ -111,15 +102,6 @@ pair_behind owner (Some least) file from = pair_before owner least file from
 pub owner_behind : (owner : ℕ) (above : Option ℕ) (other file : ℕ) → IsFromStart pair_cmp (behind owner above) (other, file) → owner ≤ other
 owner_behind owner None other file from = owner_upto owner 0 other file from
 owner_behind owner (Some least) other file from = owner_upto owner least other file (ap is_gt from)
-
-pub above_behind : (owner : ℕ) (above : Option ℕ) (file : ℕ) → IsFromStart pair_cmp (behind owner above) (owner, file) → IsAbove above file
-above_behind owner None file from = tt
-above_behind owner (Some least) file from = elim (cases_lt least file) [
-  | inl before ↦ before
-  | inr past ↦ absurd (let at = file_upto owner least file (ap is_gt from) in
-      let is : least ≡ file = omega arith in
-      let no : Equal ≡ Less = sym (ap (λ (o : Ordering). ordering_then o (nat_cmp least file)) (same owner owner refl) ∙ same least file is) ∙ from in cc)
-]
 
 -- what is not true is false
 pub untrue : (test : Bool) → (IsTrue test → ⊥) → test ≡ false
@@ -138,17 +120,6 @@ pub from_behind_owner : (above : Option ℕ) (owner file : ℕ) → number_behin
 from_behind_owner None owner file from = from_owner 0 owner file from
 from_behind_owner (Some last) owner file from =
     ap (λ (o : Ordering). ordering_then o (nat_cmp (2 ^ 64 - 1) file)) (less last owner (omega arith))
-
--- and a pair there, whose file is a number of 64 bits, is of an owner that is above
-pub owner_behind_it : (above : Option ℕ) (owner file : ℕ) → file < 2 ^ 64 → IsFromStart pair_cmp (behind_owner above) (owner, file)
-    → number_behind above ≤ owner
-owner_behind_it None owner file fits from = omega arith
-owner_behind_it (Some last) owner file fits from = elim (cases_eq owner last) [
-  | inl is ↦
-      absurd (let past : 2 ^ 64 - 1 < file = above_behind last (Some (2 ^ 64 - 1)) file (subst (λ (o : ℕ). IsFromStart pair_cmp (behind_owner (Some last)) (o, file)) is from) in
-      omega (arith, fits, past))
-  | inr differs ↦ (let further = owner_behind last (Some (2 ^ 64 - 1)) owner file from in omega (arith, further, differs))
-]
 
 pub within_is : (first last owner : ℕ) → first ≤ owner → owner ≤ last → is_within first last owner ≡ true
 within_is first last owner from upto = grind (arith, nat_tests)

@@ -1,7 +1,6 @@
 -- Who has neither room nor a place for a grant doesn't wait: for `LockFile::may_wait` and `LockFile::next_among`.
-use Rattle.lock_server.proofs.Common.{◌≡◌, ◌≢◌, ℕ, ◌∙◌, Bool, true, false, ◌==◌, List, [], ◌∷◌, Any, length, refl, sym, ap, subst, cond, arith, IsTrue, filter, eqb-true, eq-eqb, All-cons, All-nil, get_or_from_slice_get, slice_get_within, Description, Book, has_flock_place, room_in, Family, Bytes, Whole, Pending, Of, Reach, is_among, reaches, AreOfOthers, is_byte_wait, is_flock_wait, is_of_bytes, HasRoom}
+use Rattle.lock_server.proofs.Common.{◌≡◌, ◌≢◌, ℕ, ◌∙◌, Bool, true, false, ◌==◌, List, [], ◌∷◌, Any, length, refl, sym, cond, arith, IsTrue, filter, eq-eqb, All-cons, All-nil, Description, Book, has_flock_place, room_in, Family, Bytes, Whole, Pending, AreOfOthers, is_byte_wait, is_flock_wait, is_of_bytes, HasRoom}
 use Rattle.std.proofs.Common.{◌&&◌}
-use Rattle.arrival_list.specs.Places.{NonePassesFrom}
 use Rattle.lock_server.specs.Pendings.{is_of_whole}
 use Rattle.lock_server.proofs.ListLemmas.{Any-here, Any-there}
 
@@ -30,16 +29,3 @@ pub no_room_no_wait : (book : Book) (waits : List Pending) (owner : ℕ) → Has
 no_room_no_wait book waits owner room none nowhere =
     no_wait owner waits (let few = room.bytes owner in omega (arith, few, none))
     (λ any. (let place = room.places owner any in let h : false ≡ true = sym nowhere ∙ place in cc))
-
-and_fails : (b c : Bool) → b ≡ false → (b && c) ≡ false
-and_fails b c fail = ap (λ x. x && c) fail
-
-differs : (b : Bool) → (b ≡ true → ⊥) → b ≡ false
-differs true never = absurd (never refl)
-differs false never = refl
-
--- none of others' waits is among those of the owner
-pub none_among : (owner : ℕ) (reach : Reach) (waits : List Pending) (from : ℕ) → AreOfOthers waits owner → NonePassesFrom (is_among (Of owner reach)) from waits
-none_among owner reach waits from others i wait late at =
-    let another = subst (λ (w : Pending). w.owner ≢ owner) (get_or_from_slice_get waits i wait wait at) (others i wait (slice_get_within waits i wait at)) in
-    and_fails (wait.owner == owner) (reaches reach wait) (differs (wait.owner == owner) (λ is. another (eqb-true wait.owner owner is)))

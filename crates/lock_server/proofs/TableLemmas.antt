@@ -1,5 +1,5 @@
 -- The entries of files: for `Table::add_steps`, `Table::blocker`, `Table::blocks` and `Table::holds_back`.
-use Rattle.lock_server.proofs.Common.{ℕ, ◌≡◌, ◌∙◌, sym, ap, arith, Option, Some, None, inl, inr, [], Bor, option_copied, Mode, HeldConflicts, IsByteRange, Owner, Process, Description, Family, Bytes, Whole, Policy, Held, Queue, IsBlockedIn, Pending, as_wait, by_owner, locks_on, untouched, HasIn, IsBlockedUnless, IsHeldBack, LockFile, Table, file_state, state_at, entry_in, table_state, entry_of}
+use Rattle.lock_server.proofs.Common.{ℕ, ◌≡◌, ◌∙◌, sym, ap, Option, Some, None, inl, inr, [], Bor, option_copied, Mode, HeldConflicts, Owner, Process, Description, Family, Bytes, Whole, Policy, Held, Queue, IsBlockedIn, Pending, as_wait, by_owner, locks_on, untouched, IsBlockedUnless, IsHeldBack, LockFile, Table, file_state, state_at, entry_in, table_state, entry_of}
 use Rattle.lock_server.proofs.ListLemmas.{Any-nil}
 
 -- a file with an entry has its state
@@ -30,7 +30,3 @@ untouched_free wait held = free_in wait.family wait held
 pub untouched_open : (policy : Policy) (wait : Pending) (Had : Type 0) → ¬ IsBlockedUnless policy untouched [] wait Had
 untouched_open Held wait Had blocked = untouched_free wait blocked
 untouched_open Queue wait Had blocked = elim blocked [ inl held ↦ untouched_free wait held | inr behind ↦ Any-nil _ behind.0 ]
-
-lacks_in : (family : Family) (wait : Pending) → IsByteRange wait.span → ¬ HasIn family untouched wait
-lacks_in Bytes wait range has = has wait.span.first (omega arith, range.0)
-lacks_in Whole wait range has = has

@@ -1,14 +1,10 @@
 -- What a watch was told of the callers, one after another and all together: for `Caller::converse`, `gather_all` and `replay_threads`.
-use Rattle.replay_core.proofs.Common.{◌≡◌, ◌∙◌, inl, inr, ap, sym, subst, ℕ, ◌-◌, List, [], ◌∷◌, ◌++◌, length, arith, Event, IsPrefixOf, requests_taken, Request, client_view, Meaning, processes_in, Caller, SameCaller, AreOf, AreToldOf}
+use Rattle.replay_core.proofs.Common.{◌≡◌, ◌∙◌, inl, inr, sym, subst, ℕ, ◌-◌, List, [], ◌∷◌, ◌++◌, length, arith, Event, IsPrefixOf, requests_taken, Request, client_view, Meaning, processes_in, Caller, SameCaller, AreOf, AreToldOf}
 use Rattle.replay_core.specs.Callers.{WasTold}
 use Rattle.replay_core.specs.Gathering.{HasLeft}
 use Rattle.replay_core.specs.Watching.{IsToldOf, IsWatched, AreWatched}
 use Rattle.replay_core.proofs.ListLemmas.{item_of_grown}
 use Rattle.replay_core.proofs.GatheringLemmas.{some_at}
-
--- of nothing all was told
-pub told_of_none : (told : ℕ → ℕ → Type 0) (p : ℕ) (posted : List Request) → posted ≡ [] → IsToldOf told p (length posted)
-told_of_none told p posted none n low high = let count = ap (λ (l : List Request). length l) none in absurd (omega (arith, count, low, high))
 
 -- the client of a caller at its end was watched, and so it is of the caller before
 pub watched_before : (told : ℕ → ℕ → Type 0) (journal : List Event) (old new : Caller) → SameCaller old new → WasTold told new

@@ -1,7 +1,7 @@
 -- What a `JournalReader` has read once a header line, an entry or a line of the report was taken down, and whether it may end.
 use Rattle.script_core.proofs.JournalReportLemmas.{one_report, AreLeft-first, AreLeft-more, front_more, no_front, due_is, nothing_due, ends_whole, first_due-none}
 use Rattle.script_core.proofs.Common.{append-nil, rules, arith, ◌≡◌, ◌≢◌, ℕ, true, false, List, [], ◌∷◌, ◌++◌, All, Option, Some, None, MatchOption, Result, Ok, Err, inr, refl, sym, ap, ap₂, ◌∙◌, subst, is_some, common_steps}
-use Rattle.script_core.proofs.Common.{LocksHaveOneReport, Rules, State, Event, IsRun, Header, Stage, Place, ReportLine, AreTextsOf, IsFirstDue, first_due, AreReportLines, HasFewTaken, JournalReading, AreLegal, IsBeforeReport, rules_at, processes_at, AreLeft, TakesSaid}
+use Rattle.script_core.proofs.Common.{LocksHaveOneReport, Rules, State, Event, IsRun, Header, Place, ReportLine, AreTextsOf, IsFirstDue, first_due, AreReportLines, HasFewTaken, JournalReading, AreLegal, IsBeforeReport, rules_at, processes_at, AreLeft, TakesSaid}
 use Rattle.session_core.specs.Checking.{HasAccepted}
 use Rattle.script_core.specs.declared.place.Stage.TheVariants as stages
 use Rattle.script_core.specs.declared.place.JournalLine.TheVariants as lines
@@ -99,15 +99,6 @@ report_refused one old new reading text left (reports.Memory memory) read are no
     (tt, kept_read old new reading left read are placed checker illegal report)
 
 -- ---- the end
-
-record IsCutAt (stage : Stage) (report : Option (List ReportLine)) : Type 0 where
-  begun : stage ≡ stages.Report
-  left : List ReportLine
-  is : report ≡ Some left
-  due : is_some (first_due left) ≡ true
-
-cut_at : (stage : Stage) (report : Option (List ReportLine)) → is_cut stage report ≡ true → IsCutAt stage report
-cut_at stage report h = grind (arith, common_steps)
 
 -- the report is cut short
 pub finish_cut : LocksHaveOneReport → (reader : JournalReader) (reading : JournalReading) → HasRead reader reading → cuts reader ≡ true

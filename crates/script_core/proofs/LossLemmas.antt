@@ -79,10 +79,6 @@ bytes_unlisted S file owner same = (
 pub no_locks : (S : State) (file d : ℕ) → AreByteLocksOf S file (Description d) [] → flock_mode_in S.flock_changes file d ≡ None → AreLocksOf S file d []
 no_locks S file d bytes none = ([], bytes, rw none refl)
 
-pub bytes_alone : (S : State) (file d : ℕ) (bytes : List Held) → AreByteLocksOf S file (Description d) bytes → flock_mode_in S.flock_changes file d ≡ None
-    → AreLocksOf S file d bytes
-bytes_alone S file d bytes are none = (bytes, are, rw none (sym (append-nil bytes)))
-
 -- what goes with a descriptor: only the process' own, where the description has no lock or stays open, and else both
 pub own_of_lockless : (S : State) (p : ℕ) (look : Look) (stays : Bool) (own : List Held) → AreByteLocksOf S look.file (Process p) own
     → AreLocksOf S look.file look.desc [] → AreReleasedBy S p look stays own

@@ -1,6 +1,6 @@
 -- The arrivals of a script: each is of one of its processes, and is said by the words of its line; for `parse`.
 use Rattle.script_core.proofs.Common.{arith, ℕ, ◌≡◌, refl, sym, subst, Bool, true, List, [], ◌∷◌, Option, MatchOption, Result, Ok, Err, All, MatchBool, ◌+◌, decimal, common_steps, All-nil}
-use Rattle.script_core.proofs.Common.{Limits, Request, Line, Cause, Word, ScriptFault, Meaning, IsProcess, IsWritable, Reading, limits_of, meaning_of, reading_after, is_comment, is_empty, ArgumentsGive, CommandGives, RequestGives, ArrivalGives, ProcessGives, WordsGive, LineGives, LinesGive, Reads, Command, command_named, words_of}
+use Rattle.script_core.proofs.Common.{Limits, Request, Line, Cause, Word, ScriptFault, Meaning, IsProcess, IsWritable, Reading, limits_of, meaning_of, reading_after, is_comment, is_empty, CommandGives, RequestGives, ArrivalGives, ProcessGives, WordsGive, LineGives, LinesGive, Reads, Command, command_named, words_of}
 use Rattle.std.proofs.lemmas.List.Elements.{All-push, All-weaker}
 use Rattle.script_core.specs.declared.line.Line.TheVariants as lines
 use Rattle.script_core.specs.ScriptText.{IsRequest}
@@ -40,11 +40,6 @@ read_as request = Ok request
 -- a choice by a test, each side leading to the same
 join_by : (test : Bool) (P Q R : Type 0) → (test ≡ true → P → R) → (Q → R) → MatchBool test P Q → R
 join_by test P Q R f g h = grind (arith, common_steps)
-
--- words that are read as a request are one of the limits
-of_arguments : (limits : Limits) (words : List (List ℕ)) (command : Command) (arguments : List (List ℕ)) (request : Request)
-    → ArgumentsGive limits words command arguments (Ok request) → IsRequest limits words request
-of_arguments limits words command arguments request h = grind (arith, common_steps)
 
 of_command : (limits : Limits) (words : List (List ℕ)) (arguments : List (List ℕ)) (request : Request) (command : Option Command)
     → MatchOption command (read_as request ≡ Err Word) (λ command. CommandGives limits words command arguments (Ok request))

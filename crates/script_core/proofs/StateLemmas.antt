@@ -1,5 +1,5 @@
 -- The lines of a state, one after another: for `write_explained`, clause `ok`; and what words ask for no state: for `States::of_word`.
-use Rattle.script_core.proofs.Common.{common_steps, ℕ, zero, suc, ◌≡◌, ◌≢◌, ◌<◌, ◌+◌, Some, None, get_or, slice_get, length, drop, take, subst, ⊎_elim, List, [], ◌∷◌, ◌++◌, inl, inr, refl, sym, ap, ◌∙◌, codes, arith, append_assoc, append-nil, add-one, ne_eqb, ◌==◌, ◌≤◌, false, Option, decimal, map, flat_map, Result, Ok, Err, MatchResult, decimal_digit, decimal_injective, cases_eq, get_or_from_slice_get, slice_get-get_or, slice_get_within}
+use Rattle.script_core.proofs.Common.{common_steps, ℕ, zero, suc, ◌≡◌, ◌≢◌, ◌<◌, ◌+◌, Some, None, get_or, slice_get, length, drop, take, subst, ⊎_elim, List, [], ◌∷◌, ◌++◌, inl, inr, refl, sym, ap, ◌∙◌, codes, arith, append_assoc, append-nil, add-one, ◌≤◌, Option, decimal, map, flat_map, Result, Ok, Err, MatchResult, decimal_digit, decimal_injective, cases_eq, get_or_from_slice_get, slice_get-get_or, slice_get_within}
 use Rattle.script_core.proofs.Common.{FILES, Look, Descriptors, look_at, Held, mode_in, flock_mode_in, IsHeldReport, Wait, ProcState, Rules, Manager, Visit, State, Visits, StandsFor, processes_of, state_at, Extends, States, StateLine, AreStateLines, IsChangesText, IsStateText, TellsState, marked_line}
 use Rattle.std.proofs.lemmas.Grind.{flat_map-append}
 use Rattle.std.proofs.Common.{OnOk}
@@ -166,10 +166,6 @@ kept_first places.Nowhere rules processes S = tt
 kept_first (places.Behind place) rules processes S = tt
 kept_first places.Everywhere rules processes S = tt
 kept_first places.Changes rules processes S = refl
-
--- behind a later entry it is told against the lines of the state
-later : (n : ℕ) → 1 ≤ n → (n + 1 == 1) ≡ false
-later n some = ne_eqb (n + 1) 1 (λ e. omega (arith, e, some))
 
 -- what is told of the state where nothing is kept
 abbrev pub StateTold : States → Rules → ℕ → Manager → List StateLine → List StateLine → List ℕ → List ℕ → Type 0

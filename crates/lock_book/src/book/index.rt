@@ -74,16 +74,6 @@ impl OwnersIndex {
         self.runs = index_of(alloc, owners);
     }
 
-    /// Readies the index for one more set, as [`OwnersIndex::prepare`]; for an unlock, which goes on in the room that is held, it asks for none.
-    pub fn prepare_set(&mut self, alloc: Global, owners: &OwnerLists, mode: Option<Mode>)
-        requires { AreIndexed self.old owners.now }
-        ensures { AreIndexed self.new owners.now }
-    {
-        if mode.is_some() {
-            self.prepare(alloc, owners);
-        }
-    }
-
     /// Whether there are so many owners, or runs in the index, that there is to be one.
     fn is_wanted(&self, owners: &OwnerLists) -> bool {
         self.runs

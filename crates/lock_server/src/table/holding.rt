@@ -1,6 +1,5 @@
 //! Who has something on which file.
 ghost use Rattle.std.specs.Prelude.{◌≡◌, ◌<◌, ◌≤◌, ◌↔◌, ℕ, IfNone, IfSome, IsTrue};
-ghost use Rattle.lock_server.specs.Clients.{HasByteLock};
 ghost use Rattle.lock_server.specs.Holding.{HasNoLock, HasNothing};
 ghost use Rattle.lock_server.specs.Listing.{number_behind};
 ghost use Rattle.lock_server.specs.TableView.{table_state};
@@ -16,16 +15,6 @@ impl Table {
         match self.files.get(&file) {
             Some(locks) => locks.has_nothing(owner),
             None => true,
-        }
-    }
-
-    /// Whether the owner has a byte lock on the file.
-    pub fn has_byte_lock(&self, file: u64, owner: u64) -> bool
-        ensures { IsTrue result ↔ HasByteLock ((table_state self.now).files file) owner }
-    {
-        match self.files.get(&file) {
-            Some(locks) => locks.has_byte_lock(owner),
-            None => false,
         }
     }
 

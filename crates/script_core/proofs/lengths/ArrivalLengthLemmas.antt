@@ -1,5 +1,5 @@
 -- The arrivals of a script: their lines take no more bytes than it has, and each has seven with its line feed: for `outputs_are_short`.
-use Rattle.script_core.proofs.Common.{common_steps, ◌≡◌, ℕ, ◌+◌, ◌*◌, ◌≤◌, Bool, List, [], ◌∷◌, ◌++◌, length, filter, Ok, Err, ap, arith, slice_split, onto_first, recursion_from_All, Limits, Request, Line, request_words, Meaning, IsWritable, Says, without_empty_end, lines_of, words_of, script_limit, Reading, LineGives, LinesGive, Reads, limits_of, reading_after}
+use Rattle.script_core.proofs.Common.{common_steps, ◌≡◌, ℕ, ◌+◌, ◌*◌, ◌≤◌, Bool, List, [], ◌∷◌, ◌++◌, length, filter, Ok, Err, ap, arith, slice_split, onto_first, recursion_from_All, Limits, Request, Line, request_words, Meaning, IsWritable, Says, without_empty_end, words_of, script_limit, Reading, LineGives, LinesGive, Reads, limits_of, reading_after}
 use Rattle.std.specs.List.{AllByRecursion as Each}
 use Rattle.std.proofs.lemmas.Bool.{ltb-false}
 use Rattle.std.proofs.lemmas.List.Splits.{length-slice_split}
@@ -44,10 +44,6 @@ both_length (word ∷ words) more = let rest = both_length words more in omega (
 -- the words of a line, each with a byte more, have one more than it at most
 words_length : (line : List ℕ) → more_length (words_of line) ≤ length line + 1
 words_length line = grind (arith, common_steps, split_length, filter_length)
-
--- so have the lines of all bytes
-lines_length : (bytes : List ℕ) → more_length (lines_of bytes) ≤ length bytes + 1
-lines_length bytes = grind (arith, common_steps, split_length, without_end_length)
 
 -- ---- a request
 
