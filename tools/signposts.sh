@@ -1,7 +1,7 @@
 #!/bin/sh
 # Looks that each file that the documents name is there, and each name that stands behind one in brackets in that file: as
 # `lock_manager/specs/Settling.antt` (`Settles`). Paths are below crates/, or below the top. That each name of the library for C is in its
-# header, or in the crate that links it. And that the calls, clauses, definitions, edits and lemmas of docs/PROOFS.md are there.
+# header, or in the crate that links it. And that the calls, clauses, definitions and edits of docs/PROOFS.md are there.
 # Usage: signposts.sh [FILE..], the documents, by default the README, all of docs/ and of the crates
 set -eu
 cd "$(dirname "$0")/.."
@@ -52,7 +52,7 @@ for name in $(grep -ohE '`(dehokuna|DEHOKUNA)_[A-Za-z_]+`' "$@" | tr -d '`' | so
 done
 
 # Of docs/PROOFS.md: the crates of each heading, with commas between them, with a kind and a name: of each row its calls and clauses, its
-# definitions and its edits, and the key lemmas.
+# definitions and its edits.
 rows() {
     awk -F'|' '
         function each(cell, kind, form) {
@@ -63,10 +63,7 @@ rows() {
             }
         }
         /^## `/ { crate = $0; gsub(/[^a-z_,]/, "", crate) }
-        NF == 5 { each($3, "call", "."); each($4, "definition", "."); each($5, "edit", ".") }
-        /^Key lemmas:/ { key = 1 }
-        /^$/ { key = 0 }
-        key { each($0, "lemma", "^[A-Z][A-Za-z]*[.]") }' docs/PROOFS.md | sort -u
+        NF == 5 { each($3, "call", "."); each($4, "definition", "."); each($5, "edit", ".") }' docs/PROOFS.md | sort -u
 }
 
 # Whether one of the crates $2, with commas between them, passes the test $1 with the name $3.
@@ -83,20 +80,18 @@ has_call() {
         || grep -qE "^ +pub ${2##*::} :" "crates/$1/specs/Headline.antt" 2> /dev/null
 }
 
-# Whether the crate $1 has the definition $2, FILE or FILE.NAME, of another crate as CRATE/FILE.NAME.
+# Whether the crate $1 has the definition $2, FILE or FILE.NAME, of another crate as CRATE/FILE.NAME: the file gives the name a type.
 has_definition() {
     case $2 in */*) set -- "${2%%/*}" "${2#*/}" ;; esac
-    case $2 in *.*) grep -qwF -e "${2#*.}" "crates/$1/specs/${2%%.*}.antt" 2> /dev/null ;; *) [ -e "crates/$1/specs/$2.antt" ] ;; esac
+    case $2 in
+        *.*) grep -qE "^ *((abbrev|pub|record|data|unfoldable) )*${2#*.} .*:" "crates/$1/specs/${2%%.*}.antt" 2> /dev/null ;;
+        *) [ -e "crates/$1/specs/$2.antt" ] ;;
+    esac
 }
 
 # Whether the crate $1 has the edit $2.
 has_edit() {
     [ -e "crates/$1/must-fail/$2.edit" ] || [ -e "crates/$1/further-edits/$2.edit" ]
-}
-
-# Whether the crate $1 has the lemma $2, FILE.NAME.
-has_lemma() {
-    grep -rqwF --include="${2%%.*}.antt" -e "${2#*.}" "crates/$1/proofs" "crates/$1/specs" 2> /dev/null
 }
 
 rows > "$rows"
@@ -105,7 +100,6 @@ while read -r crates kind name; do
         call) look "$crates has no call or clause $name" has_one has_call "$crates" "$name" ;;
         definition) look "$crates has no definition $name" has_one has_definition "$crates" "$name" ;;
         edit) look "$crates has no edit $name" has_one has_edit "$crates" "$name" ;;
-        lemma) look "$crates has no lemma $name" has_one has_lemma "$crates" "$name" ;;
     esac
 done < "$rows"
 echo "signposts: $passed passed, $failed failed"

@@ -17,7 +17,6 @@ from harsh import Node, World, Wrong
 NODE, TEXT, SIZE = ctypes.c_uint32, ctypes.c_char_p, ctypes.c_size_t
 BYTES = ctypes.POINTER(ctypes.c_uint8)
 IN_VIEW, WITHDRAWN = 2, 3
-ERRORS = {5: 'EIO', 4: 'EINTR'}
 WAIT = 3    # enum op
 PT_LOAD, PT_GNU_RELRO, PF_W, PAGE = 1, 0x6474e552, 2, 4096
 
