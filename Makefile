@@ -27,8 +27,8 @@ released:
 # threads, in whatever order comes), the large scripts, the samples, and what every order of scripts comes to on the program as two
 # compilers built it in the gate, what the library's calls tell C where a C compiler is there, what the README (which links that library),
 # the help and the manual page show, the names that the documents point to, that the tests of script_core have these worked scripts, that
-# want of memory is made at one place, that each edit still compiles, that wrong bodies of crates without must-fail/ (which would have them
-# proved twice) are refused for what they mean, and the conformance tools' tests but for those that a busy machine can upset.
+# want of memory is made at one place, that each edit still compiles, that some wrong bodies of further-edits/ are refused for what they
+# mean, and the conformance tools' tests but for those that a busy machine can upset.
 WORKED := $(basename $(wildcard tests/worked-scripts/*.out)) $(wildcard tests/threads/*)
 # (one proof a processor: by its own guess of the memory that the two largest crates take, rt leaves processors idle beside them)
 test:
