@@ -10,7 +10,7 @@
 
 /* A request for a lock that is under way. */
 struct ask {
-    fuse_req_t fuse; /* NULL: it is answered already */
+    fuse_req_t fuse;
     uint64_t serial;
     struct owner *owner;
     struct open_file *open;
@@ -38,9 +38,9 @@ void lock_answered(void *who, const struct call *call, int error, const struct d
     struct ask *ask = who;
     /* (a flush may have come while it waited) */
     if (!error && asks_for_lock(call)) remember(ask->open, ask->owner, ask->is_flock, ask->pid);
-    if (error && ask->fuse) log_refusal(&ask->asked, error);
-    if (ask->fuse && call->op == OP_GET && !error) answer_look(ask, blocker);
-    else if (ask->fuse) fuse_reply_err(ask->fuse, error);
+    if (error) log_refusal(&ask->asked, error);
+    if (call->op == OP_GET && !error) answer_look(ask, blocker);
+    else fuse_reply_err(ask->fuse, error);
     free_ask(ask);
 }
 
@@ -69,8 +69,10 @@ static void submit(fuse_req_t fuse, struct open_file *open, struct owner *owner,
     map_put(&asks, ask->serial, 0, ask);
     call.file = open->inode, call.generation = open->generation, call.open_file = open->number;
     if (owner) call.owner = owner->number;
-    if (fuse) fuse_req_interrupt_func(fuse, interrupted, (void *)(uintptr_t)ask->serial);
+    fuse_req_interrupt_func(fuse, interrupted, (void *)(uintptr_t)ask->serial);
     ask->request = replica_submit(&call, ask);
+    /* (without a view a close is answered at once) */
+    own_answer();
     wake_group();
 }
 
@@ -143,12 +145,12 @@ static void cluster_flush(fuse_req_t request, fuse_ino_t file, struct fuse_file_
     take_turn();
     struct open_file *open = find_open_file(info->fh);
     struct asker *asker = open ? asker_of(open->inode, find_owner(info->lock_owner), false) : NULL;
-    bool is_sent = asker && !asker->is_lost && standing_now() != STANDING_WITHDRAWN, is_answered = !is_sent || standing_now() != STANDING_IN_VIEW;
+    bool is_sent = asker && !asker->is_lost && standing_now() != STANDING_WITHDRAWN;
     struct owner *owner = asker ? asker->owner : NULL;
     if (is_sent) owner->uses++;
     if (asker) forget(asker);
-    if (is_answered) fuse_reply_err(request, 0);
-    if (is_sent) submit(is_answered ? NULL : request, open, owner, false, 0, NULL, (struct call){.op = OP_FLUSH});
+    if (is_sent) submit(request, open, owner, false, 0, NULL, (struct call){.op = OP_FLUSH});
+    else fuse_reply_err(request, 0);
     give_turn();
 }
 

@@ -77,7 +77,7 @@ void own_answer(void) {
 }
 
 bool own_interrupt(void *who, struct request *request, struct call *cancel) {
-    if (request->who != who || request->is_decided || request->is_interrupted || lets_go(&request->call)) return false;
+    if (request->who != who || request->is_decided || request->is_interrupted) return false;
     request->is_interrupted = true;
     if (!request->sent_at) {
         request->is_applied = true; /* (nowhere) */
@@ -86,6 +86,15 @@ bool own_interrupt(void *who, struct request *request, struct call *cancel) {
     }
     *cancel = (struct call){.op = OP_CANCEL, .first = request->call.number};
     return request->call.op == OP_WAIT || request->call.op == OP_FLOCK_WAIT;
+}
+
+void own_leave(struct request *request) {
+    if (request->call.op == OP_FLUSH) decide_answer(request, 0);
+    else if (request->is_interrupted && lets_go(&request->call)) decide_answer(request, EINTR);
+}
+
+void own_leave_all(void) {
+    for (struct request *request = list.next; request != &list; request = request->next) own_leave(request);
 }
 
 void own_send(struct request *request, void (*send)(const struct call *call)) {

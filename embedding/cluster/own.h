@@ -19,8 +19,11 @@ struct request;
 void own_open(uint16_t node, const struct own_calls *calls);
 /* Takes the call up under a new number. */
 struct request *own_submit(const struct call *call, void *who);
-/* A signal came. The request is over where no other node can know of it; otherwise `cancel` is the call to submit, and the result true. */
+/* A signal came. The request is over where no other node can know of it; otherwise where the result is true `cancel` is the call to submit. */
 bool own_interrupt(void *who_of_request, struct request *request, struct call *cancel);
+/* There is no view: a close doesn't wait for the next one, nor an unlock in which a signal came, which is told EINTR. They go on unseen. */
+void own_leave(struct request *request);
+void own_leave_all(void);
 void own_send(struct request *request, void (*send)(const struct call *call));
 /* Calls `send` with each request above this number. */
 void own_send_from(uint64_t number, void (*send)(const struct call *call));

@@ -291,6 +291,7 @@ static void end_view(void) {
     late_at = 0;
     begin_round(&this_round, options.patience);
     stand(has_majority(&there, settings) ? STANDING_UNDECIDED : STANDING_NO_VIEW);
+    own_leave_all();
 }
 
 static void members_changed(const struct member *members, unsigned count) {
@@ -378,12 +379,14 @@ bool replica_work(void) {
 struct request *replica_submit(const struct call *call, void *who) {
     struct request *request = own_submit(call, who);
     if (is_in_view()) own_send(request, send_call);
+    else own_leave(request);
     return request;
 }
 
 void replica_interrupt(void *who, struct request *request) {
     struct call cancel;
     if (own_interrupt(who, request, &cancel)) replica_submit(&cancel, NULL);
+    if (!is_in_view()) own_leave(request);
 }
 
 uint64_t replica_seen(void) { return seen_at; }

@@ -104,6 +104,30 @@ def partition(nodes: Nodes) -> str:
     return f"EIO {over - lost:.3f} s before the lock went over"
 
 
+def unlocks_without_a_view(nodes: Nodes) -> str:
+    """On a node that is cut off a close is answered, and an unlock waits for the next view, or for a signal."""
+    mount = nodes.mount(3)
+    with open_client(mount / "killed") as killed, open_client(mount / "closed") as closes, open_client(mount / "unlocked") as holder:
+        for client in (killed, closes, holder):
+            client.do("lock", 0, "ex", 0, 1)
+        nodes.cut(3)
+        wait_until(lambda: is_told_eio(holder), DETECTION_S + 3, "the holder on the node that is cut off may write")
+        for client in (killed, holder):
+            client.tell("lock", 0, "un", 0, 1)
+        closes.do("close", 0)
+        time.sleep(0.5)
+        require(not killed.is_answered() and not holder.is_answered(), "an unlock is answered without a view")
+        killed.end()
+        wait_until(lambda: killed.process.poll() is not None, 5, "who unlocks isn't ended by a kill")
+        nodes.join(3)
+        require(holder.answer(30) == "ok", "an unlock isn't answered in the next view")
+    nodes.wait_for_grants(3)
+    with open_client(nodes.mount(1) / "killed") as one, open_client(nodes.mount(1) / "closed") as other:
+        require(one.ask("try", 0, "ex", 0, 1) == other.ask("try", 0, "ex", 0, 1) == "ok", "what was let go is still held")
+    nodes.wait_for_agreement(list(nodes.all()))
+    return ""
+
+
 @contextlib.contextmanager
 def busy(nodes: Nodes, node: int) -> Iterator[None]:
     """Meanwhile a process of the node locks and unlocks without a pause, as long as it isn't told EIO."""

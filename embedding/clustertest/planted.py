@@ -42,6 +42,7 @@ def race_while_nodes_die(nodes: Nodes) -> str:
 
 PURGE = "    dehokuna_forget_owners(&server, number_of(node, 0), number_of(node, LARGEST_COUNT));\n"
 DELIVERED = "    if (request && lets_go(&request->call)) decide_answer(request, 0);\n"
+INTERRUPTED = "    if (request->who != who || request->is_decided || request->is_interrupted) return false;\n"
 SENT = "    request->sent_at = milliseconds_now();\n"
 FAULTS = {
     "purge-leaves": Fault(
@@ -59,9 +60,7 @@ FAULTS = {
         race, IMPOSSIBLE),
     "look-without-order": Fault(
         "a look for a lock is answered by what this node has applied, and not ordered",
-        (("own.c", SENT, SENT + "    if (request->call.op == OP_GET) {\n        own_applied(&request->call, DEHOKUNA_DONE);\n        return;\n    }\n"),
-         ("lock_calls.c", "    ask->request = replica_submit(&call, ask);\n    wake_group();\n",
-          "    ask->request = replica_submit(&call, ask);\n    wake_group_in_any_case();\n")),
+        (("own.c", SENT, SENT + "    if (request->call.op == OP_GET) {\n        own_applied(&request->call, DEHOKUNA_DONE);\n        return;\n    }\n"),),
         race, IMPOSSIBLE),
     "applied-as-delivered": Fault(
         "what is delivered is applied and told at once, before a majority has it",
@@ -72,6 +71,10 @@ FAULTS = {
         "who loses a lock isn't told",
         (("askers.c", "    if (!asker->holds) return;\n    asker->holds = false;\n", "    asker->holds = false;\n    return;\n"),),
         faults.partition, ("who lost its lock may write",)),
+    "unlock-waits": Fault(
+        "who unlocks without a view can't be interrupted",
+        (("own.c", INTERRUPTED, INTERRUPTED.replace(")", " || lets_go(&request->call))")),),
+        faults.unlocks_without_a_view, ("isn't ended by a kill",)),
     "never-stale": Fault(
         "a node that hears nothing takes itself to be in the view",
         (("file_calls.c", "    return age < most;\n", "    return true;\n"),),

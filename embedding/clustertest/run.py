@@ -35,6 +35,7 @@ STEPS: dict[str, Callable[[Nodes], str]] = {
     "death-of-corosync": faults.death_of_corosync,
     "death-of-node": faults.death_of_node,
     "partition": faults.partition,
+    "unlocks-without-a-view": faults.unlocks_without_a_view,
     "split": faults.split,
     "stale": faults.stale,
     "all-restart": faults.all_restart,
