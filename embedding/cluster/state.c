@@ -102,19 +102,30 @@ static void end_waits(uint64_t file) {
     for (uint64_t place = 0; dehokuna_wait_at(&server, file, place, &wait); place++) calls->ended(wait.ticket, ESTALE);
 }
 
+/* A generation that isn't known is 0, and may be any. */
+static bool is_of_generation(const struct call *call) {
+    const void *kept = map_get(&generations, call->file, 0);
+    return !call->generation || kept == stored(0) || kept == stored(call->generation);
+}
+
 /* Where the file's number was another file's before, that one's locks and waits go. false: the request is of a file that is no more, since it
  * lets go, or looks. */
 static bool is_of_file(const struct call *call) {
-    if (!has_locks_or_waits(call->file) || map_get(&generations, call->file, 0) == stored(call->generation)) return true;
+    if (!has_locks_or_waits(call->file)) {
+        map_remove(&generations, call->file, 0);
+        return true;
+    }
+    if (is_of_generation(call)) return true;
     if (!asks_for_lock(call)) return false;
     end_waits(call->file);
     dehokuna_forget_file(&server, call->file);
+    map_remove(&generations, call->file, 0);
     return true;
 }
 
 static void keep_generation(const struct call *call) {
-    if (has_locks_or_waits(call->file)) map_put(&generations, call->file, 0, stored(call->generation));
-    else map_remove(&generations, call->file, 0);
+    if (!has_locks_or_waits(call->file)) map_remove(&generations, call->file, 0);
+    else if (call->generation || !map_get(&generations, call->file, 0)) map_put(&generations, call->file, 0, stored(call->generation));
 }
 
 /* ---- Application */

@@ -105,6 +105,17 @@ static void try_generations(void) {
     request(unlock);
     request(lock_of(2, 2, 78, OP_SET));
     ok(applied_status == DEHOKUNA_BLOCKED, "who lets go of the file of before leaves the locks of the new one");
+    request(lock_of(2, 3, 0, OP_SET));
+    ok(applied_status == DEHOKUNA_BLOCKED, "a generation that isn't known may be any");
+    request(lock_of(1, 3, 79, OP_SET));
+    ok(applied_status == DEHOKUNA_DONE, "and the one that was known still is");
+    state_clear();
+    request(lock_of(1, 1, 0, OP_SET));
+    request(lock_of(2, 1, 77, OP_SET));
+    ok(applied_status == DEHOKUNA_BLOCKED, "a lock of a generation that isn't known is in the way of any");
+    request(unlock);
+    request(lock_of(2, 2, 77, OP_SET));
+    ok(applied_status == DEHOKUNA_DONE, "and goes by an unlock of any");
 }
 
 static void try_purges(void) {
@@ -130,7 +141,7 @@ static uint64_t play(unsigned seed, unsigned from, unsigned count) {
         uint16_t node = (uint16_t)(1 + rand() % 3);
         static const enum op ops[] = {OP_SET, OP_SET, OP_WAIT, OP_WAIT, OP_FLOCK, OP_FLOCK_WAIT, OP_FLUSH, OP_RELEASE, OP_CANCEL, OP_GET};
         struct call call = {.op = (uint8_t)ops[rand() % 10], .flags = FLAG_DETECT, .number = number_of(node, from + at)};
-        call.generation = (uint64_t)rand() % 40 / 39;
+        call.generation = (uint64_t)(rand() % 40 ? 1 : rand() % 3);
         call.mode = (uint8_t)(call.op == OP_WAIT || call.op == OP_FLOCK_WAIT ? 1 + rand() % 2 : rand() % 3);
         call.file = (uint64_t)rand() % 4, call.owner = number_of(node, (uint64_t)rand() % 4), call.open_file = number_of(node, (uint64_t)rand() % 3);
         call.first = (uint64_t)rand() % 12, call.last = call.first + (uint64_t)rand() % 6;
