@@ -472,6 +472,15 @@ class Quiet(TraceTest):
         calls = ('10 execve("/bin/b", ["b"], 0x7ff) = 0', f"10 fcntl(3</d/a>, F_SETLK, {UNLOCK}) = 0", f"11 fcntl(3</d/a>, F_SETLK, {WRITE}) = 0")
         self.assertEqual(self.last("12 pause( <unfinished ...>", *calls), "all 3 answers as in the log")
 
+    def test_who_ended_does_not_wait(self) -> None:
+        for waits in (f"fcntl(3</d/a>, F_OFD_SETLKW, {WRITE}", "flock(3</d/a>, LOCK_EX"):
+            held = ('11 openat(AT_FDCWD</d>, "a", O_RDWR) = 4</d/a>', f"11 {waits.replace('SETLKW', 'SETLK').replace('3<', '4<')}) = 0")
+            calls = (self.OPEN, self.FORK, self.THREAD, *held, f"12 {waits} <unfinished ...>")
+            for end, status in (("10 getpid() = 10", 3), ('10 execve("/bin/b", ["b"], 0x7ff) = 0', 0), (f"12 {ENDED}", 0), ("10 exit_group(0)   = ?", 0)):
+                with self.subTest(waits, end=end):
+                    told = self.told(log(*calls, end), "--fail-on", "stuck")
+                    self.assertEqual((told[0], told[1].splitlines()[-1]), (status, "all 1 answers as in the log"), told[1])
+
 
 class Names(TraceTest):
     """Files and their names."""
@@ -572,6 +581,14 @@ class Findings(TraceTest):
         self.assertEqual(status("close(3</d/a>) = 0"), 0)
         self.assertEqual(status("fcntl(3</d/a>, F_SETFD, FD_CLOEXEC) = 0", 'execve("/bin/b", ["b"], 0x7ff) = 0'), 0)
 
+    def test_a_file_that_one_call_closes_whole(self) -> None:
+        locked = ('10 openat(AT_FDCWD</d>, "a", O_RDWR|O_CLOEXEC) = 3</d/a>', f"10 fcntl(3</d/a>, F_SETLK, {WRITE}) = 0")
+        other = '10 openat(AT_FDCWD</d>, "a", O_RDWR|O_CLOEXEC) = 4</d/a>'
+        execs, closes = '10 execve("/bin/b", ["b"], 0x7ff) = 0', "10 close_range(3, %d, 0) = 0"
+        self.assertEqual(self.status_of("executed", *locked, other, execs), 0)
+        self.assertEqual(self.status_of("executed", *locked, other.replace("|O_CLOEXEC", ""), execs), 3)
+        self.assertEqual(self.status_of("dropped", *locked, other, closes % 4), 0)
+        self.assertEqual(self.status_of("dropped", *locked, other, closes % 3), 3)
 
     def deadlocks(self, *locks: str) -> list[str]:
         """The processes that are told to wait in a cycle, where thread 15 of 10 and others, by `TASK FILE DESCRIPTOR OPERATION`, open and lock files."""

@@ -50,6 +50,8 @@ class Request:
     # The bytes that a request is about, for an assumption about who else may hold them.
     span: Optional[tuple[int, int]] = None
     mode: str = "w"
+    # Whether its task ended before it was answered.
+    is_cut_off: bool = False
 
     @property
     def waits(self) -> bool:
@@ -126,6 +128,8 @@ class Follower:
         # By task, the place of the last line that says that a task of this number ended.
         self.last_ends = {call.task: call.begin for call in log.calls if call.name == "ended"}
         self.open_calls: dict[int, Call] = {}
+        # By task, its last lock request.
+        self.asked: dict[int, Request] = {}
         self.inherited: dict[tuple[int, str], Description] = {}
 
     def children_told(self) -> dict[int, list[Call]]:
@@ -244,19 +248,26 @@ class Follower:
         self.refer(task.table, fd, description, False, call.line)
         return task.table.descriptors[fd]
 
-    def drop(self, table: Table, fd: int, call: Call, begin: int, end: Optional[int], process: Process, what: str) -> None:
+    def drop(self, table: Table, fd: int, call: Call, process: Process, what: str) -> Optional[Release]:
         """A close of a descriptor: of the process' locks on the file, and of the description's where it may be the last."""
         one = table.descriptors.pop(fd, None)
         table.known.add(fd)
         if one is None:
-            return
+            return None
         description = one.description
         description.holders.discard((table.owner, fd))
-        closed = self.release(call, process, table.owner, description.file, False, begin, end, True, what)
-        closed.others = sorted(it for it, other in table.descriptors.items() if other.description.file is description.file)
-        description.closes.append((begin, end))
+        closed = self.release(call, process, table.owner, description.file, False, call.begin, call.end, True, what)
+        closed.others = table.numbers_of(description.file)
+        description.closes.append((call.begin, call.end))
         if not description.holders:
             self.release_last(call, process, description, False, what)
+        return closed
+
+    def drop_all(self, table: Table, fds: list[int], call: Call, process: Process, what: str) -> None:
+        """Closes by one call: a file is still open that is behind all of them."""
+        closed = [self.drop(table, fd, call, process, f"{what} {fd}") for fd in fds]
+        for release in (it for it in closed if it):
+            release.others = table.numbers_of(release.file)
 
     def release_last(self, call: Call, process: Process, description: Description, is_end: bool, what: str) -> None:
         """The last close of a description, from the latest begin of its closes to the latest end: another may be the last. What the log doesn't
@@ -309,7 +320,7 @@ class Follower:
         if fd is not None:
             if fd not in task.table.descriptors:
                 self.descriptor(task, call)
-            self.drop(task.table, fd, call, call.begin, call.end, task.process, f"close({said_descriptor(call)})")
+            self.drop(task.table, fd, call, task.process, f"close({said_descriptor(call)})")
 
     def close_range(self, task: Task, call: Call) -> None:
         """close_range(2): closes, or marks for the next exec, all descriptors from one to another."""
@@ -318,11 +329,12 @@ class Follower:
         last = 2**32 if words[1].startswith("~") or "MAX" in words[1] else numbers[1]
         if "CLOSE_RANGE_UNSHARE" in call.arguments:
             self.unshare(task)
-        for fd in [it for it in sorted(task.table.descriptors) if numbers[0] <= it <= last]:
-            if "CLOSE_RANGE_CLOEXEC" in call.arguments:
-                task.table.descriptors[fd].closes_on_exec = True
-            else:
-                self.drop(task.table, fd, call, call.begin, call.end, task.process, f"close_range(), descriptor {fd}")
+        fds = [it for it in sorted(task.table.descriptors) if numbers[0] <= it <= last]
+        if "CLOSE_RANGE_CLOEXEC" not in call.arguments:
+            self.drop_all(task.table, fds, call, task.process, "close_range(), descriptor")
+            return
+        for fd in fds:
+            task.table.descriptors[fd].closes_on_exec = True
 
     def unshare(self, task: Task) -> None:
         """A table of the task's own, a copy of the one that it shared."""
@@ -338,6 +350,9 @@ class Follower:
         table = task.table
         table.tasks.discard(task.number)
         del self.tasks[task.number]
+        asked = self.asked.pop(task.number, None)
+        if asked and asked.end is None:
+            asked.is_cut_off = True
         table.last = max(table.last, last)
         if superseded := SUPERSEDED.match(call.arguments):
             self.take_over(int(superseded[1]), task)
@@ -422,7 +437,7 @@ class Follower:
         one, to = self.descriptor(task, call), call.value
         if to is None or to == first_descriptor(call)[0]:
             return
-        self.drop(task.table, to, call, call.begin, call.end, task.process, f"{call.name}() onto descriptor {to}")
+        self.drop(task.table, to, call, task.process, f"{call.name}() onto descriptor {to}")
         if one:
             self.refer(task.table, to, one.description, "CLOEXEC" in call.arguments, call.line)
 
@@ -431,9 +446,8 @@ class Follower:
         self.unshare(task)
         named = re.search(r'"((?:[^"\\]|\\.)*)"', call.arguments)
         task.process.program = named[1].rsplit("/", 1)[-1] if named else task.process.program
-        for fd, one in sorted(task.table.descriptors.items()):
-            if one.closes_on_exec:
-                self.drop(task.table, fd, call, call.begin, call.end, task.process, f"execve(), close-on-exec descriptor {fd}")
+        fds = sorted(fd for fd, one in task.table.descriptors.items() if one.closes_on_exec)
+        self.drop_all(task.table, fds, call, task.process, "execve(), close-on-exec descriptor")
 
     def on_fcntl(self, task: Task, call: Call) -> None:
         if "F_SETFD" in call.arguments:
@@ -509,6 +523,7 @@ class Follower:
         request = Request(call, task.process, 0, one.description.file if one else None, "", None, call.begin, call.end)
         request.number = task.process.requests
         self.found.requests.append(request)
+        self.asked[task.number] = request
         if call.error in WITHOUT_EFFECT:
             request.why_not = REFUSED
         elif one is None:

@@ -123,8 +123,7 @@ class Linter:
         last = held_in(judged.states.get(len(judged.effects), []))
         # (a request without an answer has an effect where that was assumed)
         over = {id(effect.event) for effect in judged.effects if not effect.is_loss}
-        ends = {it.owner for it in self.explained.found.releases if it.is_end}
-        waiting = [it for it in self.requests if it.waits and it.answer is None and id(it) not in over and it.owner not in ends]
+        waiting = [it for it in self.requests if it.waits and it.answer is None and not it.is_cut_off and id(it) not in over]
         blocked = [(it, [lock for lock in last if self.teller.is_in_the_way(it, lock)]) for it in waiting]
         for request, locks in blocked:
             ways = "; ".join(f"{lock} of {self.teller.owner(lock.owner)}{self.teller.set_by(lock)}" for lock in locks)

@@ -55,6 +55,10 @@ class Table:
     # The place of the last line of a task before its end, of those that ended.
     last: int = 0
 
+    def numbers_of(self, file: File) -> list[int]:
+        """The descriptors of a file."""
+        return sorted(fd for fd, one in self.descriptors.items() if one.description.file is file)
+
 
 @dataclass(eq=False)
 class Process:
