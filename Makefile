@@ -66,6 +66,8 @@ test:
 	    run_all_brings_the_first_request_each_time take_next_is_always_none takes_the_mail_of_a_waiting_process
 	tools/edit-reasons call_table closed_is_always_false collect_invents_a_reply collect_is_always_none collect_looks_only_where_it_posted \
 	    desk_fills_the_cell_behind_the_next post_is_always_busy serve_one_is_idle_before_the_last_process wait_for_invents_a_reply
+	tools/edit-reasons lock_server a_cancel_of_a_queued_wait_frees_nobody an_unlock_of_a_read_lock_frees_nobody grant_comes_before_the_earlier \
+	    set_is_tested_as_a_read_lock wait_is_never_detected
 	tools/edit-reasons script_core accepts_minus_zero
 	tools/edit-reasons replay_core prints_the_first_line_of_a_faulty_script
 	cd conformance && LOCKREPLAY=$(abspath $(PROGRAM)) python3 -m unittest tests.test_corpus tests.test_judging tests.test_lies tests.test_torture \
